@@ -10,6 +10,7 @@ use Rattle.wm_event.specs.declared.event.EventId.TheVariants.{Init, At}
 use Rattle.wm_event.specs.declared.event.EventKey.{EventKey}
 use Rattle.wm_event.specs.declared.log.ThreadLog.{ThreadLog}
 use Rattle.wm_event.specs.declared.witness.Witness.{Witness}
+use Rattle.wm_event.specs.Execution.{Execution}
 use Rattle.wm_event.specs.Log.{event_in}
 use Rattle.wm_event.specs.LoggedRun.{execution}
 use Rattle.wm_event.specs.Rules.{IsValid}
@@ -70,11 +71,12 @@ module _ (a b : List ThreadLog) (same : events_of a ≡ events_of b) where
   same_function : event_in a ≡ event_in b
   same_function = λ i key. same_events key i
 
-  valid_too : (initial : List ℕ) (w : Witness) → IsValid (execution (run_with a initial w)) → IsValid (execution (run_with b initial w))
-  valid_too initial w v =
+  -- what holds of the one execution holds of the other
+  pub holds_too : (P : Execution → Type 0) (initial : List ℕ) (w : Witness) → P (execution (run_with a initial w)) → P (execution (run_with b initial w))
+  holds_too P initial w h =
       let x = execution (run_with a initial w) in
-      subst (λ (f : EventKey → Option Event). IsValid (record { event_of = f; writers_of = x.writers_of; place_of = x.place_of; initial = x.initial })) same_function v
+      subst (λ (f : EventKey → Option Event). P (record { event_of = f; writers_of = x.writers_of; place_of = x.place_of; initial = x.initial })) same_function h
 
   -- what makes one of them valid makes the other valid
   pub allowed_too : (initial : List ℕ) (w : Witness) → IsAllowedWith a initial w → IsAllowedWith b initial w
-  allowed_too initial w h = (shaped_too initial w h.0, valid_too initial w h.1)
+  allowed_too initial w h = (shaped_too initial w h.0, holds_too IsValid initial w h.1)

@@ -1,9 +1,10 @@
 -- The first state, the state that is taken, and what is found in the end.
-use Rattle.std.proofs.Common.{◌≡◌, ℕ, zero, suc, ◌<◌, List, [], ◌∷◌, ◌++◌, length, map, take, inl, inr, Some, None, IsSome, IsTrue, refl, sym, ap, subst, ◌∙◌, arith}
+use Rattle.std.proofs.Common.{◌≡◌, ℕ, zero, suc, ◌<◌, List, [], ◌∷◌, ◌++◌, length, map, take, inl, inr, Option, Some, None, IsSome, IsTrue, refl, sym, ap, subst, ◌∙◌, arith}
 use Rattle.std.specs.Prelude.{◌⊎◌, All, slice_get}
 use Rattle.std.proofs.lemmas.Option.{none-some, same_Some}
 use Rattle.wm_ast.specs.declared.module.Module.{Module}
 use Rattle.wm_event.specs.LoggedRun.{LoggedRun, execution}
+use Rattle.wm_event.specs.Shape.{event_count}
 use Rattle.wm_event.specs.Log.{event_in}
 use Rattle.wm_event.specs.declared.event.EventKey.{EventKey}
 use Rattle.wm_event.specs.declared.log.End.{End}
@@ -12,16 +13,19 @@ use Rattle.wm_event.specs.declared.log.ThreadLog.{ThreadLog}
 use Rattle.wm_part.specs.Cut.{is_kept}
 use Rattle.wm_explore.specs.Bounds.{IsExcused}
 use Rattle.wm_explore.specs.Executions.{IsCausal, IsExecutionOf, IsOutcome, IsOutcomeWithin, ends_of, starts_of}
-use Rattle.wm_explore.specs.Search.{AreApart, Covers, Explores, Extends, IsFirstState, IsFound, IsProgress, Lists}
+use Rattle.wm_explore.specs.Search.{AreApart, Covers, CoversFor, Explores, Extends, IsFirstState, IsFound, IsProgress, Lists}
+use Rattle.wm_explore.specs.Idle.{HasIdleTurn, StandsFor}
 use Rattle.wm_explore.specs.Search.Covers.{left, listed, excused}
 use Rattle.wm_explore.specs.States.{GoesOn, IsState, count_in}
-use Rattle.wm_explore.specs.declared.bound.Bound.TheVariants.{Steps, Events}
+use Rattle.wm_explore.specs.declared.bound.Bound.TheVariants.{Graphs, Nodes, Steps, Events}
+use Rattle.wm_explore.specs.declared.bound.Bound.{Bound}
 use Rattle.wm_explore.specs.declared.exploration.Exploration.{Exploration}
 use Rattle.wm_explore.specs.declared.search.Progress.{Progress}
 use Rattle.wm_explore.specs.declared.state.State.{State}
-use Rattle.wm_explore.proofs.Beginnings.{kept_thread, some_of, thread_of_event, event_at}
+use Rattle.wm_explore.proofs.Beginnings.{ended_run, event_at, kept_thread, some_of, thread_of_event, whole_thread}
 use Rattle.wm_explore.proofs.Lists.{at_pushed, kept_pushed, last_pushed}
 use Rattle.wm_explore.proofs.Progressing.{all_at, all_pushed, at_all}
+use Rattle.wm_explore.proofs.Shortening.{fewer, stands_for, without_turn}
 use Rattle.wm_explore.proofs.Starts.{fresh}
 
 -- ---- the first state
@@ -100,6 +104,28 @@ module _ (starts : List Start) (s : State) (first : IsFirstState starts s) where
     pub begins_covering : (x : LoggedRun) → IsExecutionOf m starts x → Covers events p x
     begins_covering x is = left 0 s (ap (λ ss. slice_get ss 0) work) (first_goes_on m x is)
 
+-- ---- executions that stand for others
+
+pub stands_itself : (m : Module) (starts : List Start) (x : LoggedRun) → IsExecutionOf m starts x → IsCausal (execution x) → StandsFor m starts x x
+stands_itself m starts x is causal = record { is_execution = is; causal = causal; ends = refl; no_more = omega arith; within = λ n h. h }
+
+stands_through : (m : Module) (starts : List Start) (z y x : LoggedRun) → StandsFor m starts z y → StandsFor m starts y x → StandsFor m starts z x
+stands_through m starts z y x a b = record {
+  is_execution = a.is_execution;
+  causal = a.causal;
+  ends = a.ends ∙ b.ends;
+  no_more = let c = a.no_more in let d = b.no_more in omega (arith, c, d);
+  within = λ n h. a.within n (b.within n h);
+}
+
+-- what excuses it excuses the other
+excuses_too : (m : Module) (starts : List Start) (events : ℕ) (met : Option Bound) (y x : LoggedRun) → StandsFor m starts y x → IsExcused events met y.log → IsExcused events met x.log
+excuses_too m starts events None y x stands why = why
+excuses_too m starts events (Some Graphs) y x stands why = why
+excuses_too m starts events (Some Nodes) y x stands why = why
+excuses_too m starts events (Some (Steps k)) y x stands why = λ within. why (stands.within events within)
+excuses_too m starts events (Some (Events k)) y x stands why = λ within. why (stands.within events within)
+
 -- ---- the state that is taken
 
 module _ (m : Module) (starts : List Start) (events : ℕ) (p : Progress) (progress : IsProgress m starts p) (s : State) (q : Progress) (popped : p.work.items ≡ q.work.items ++ s ∷ []) (same_finished : q.finished ≡ p.finished) (same_met : q.met ≡ p.met) where
@@ -123,12 +149,47 @@ module _ (m : Module) (starts : List Start) (events : ℕ) (p : Progress) (progr
       by (inl last) = inr (subst (GoesOn x) last.1 on)
       by (inr old) = inl (left i v old on)
 
-  pub still_covers : (r : Progress) → Extends m starts events s q r → (x : LoggedRun) → IsExecutionOf m starts x → IsCausal (execution x) → Covers events p x → Covers events r x
+  still_covers : (r : Progress) → Extends m starts events s q r → (x : LoggedRun) → IsExecutionOf m starts x → IsCausal (execution x) → Covers events p x → Covers events r x
   still_covers r step x is causal covers = by (rest_covers x covers)
     where
       by : Covers events q x ⊎ GoesOn x s → Covers events r x
       by (inl c) = step.keeps x is causal c
       by (inr on) = step.takes x is causal on
+
+  -- after the state is extended
+  pub still_covers_for : (r : Progress) → Extends m starts events s q r → (x : LoggedRun) → CoversFor m starts events p x → CoversFor m starts events r x
+  still_covers_for r step x (y, stands, covers) = (y, stands, still_covers r step y stands.is_execution stands.causal covers)
+
+  -- after the state is dropped, since a thread's last events in it are an idle turn
+  module _ (turn : HasIdleTurn m s.log) (each : (x : LoggedRun) → IsExecutionOf m starts x → IsCausal (execution x) → CoversFor m starts events p x) where
+    -- an execution that goes on from the state has a shorter one that stands for it
+    shorter : (x : LoggedRun) → IsExecutionOf m starts x → IsCausal (execution x) → GoesOn x s → (y : LoggedRun) × StandsFor m starts y x × (event_count y.log < event_count x.log)
+    shorter x is causal on =
+        let u = whole_thread s.log x.log on.beginning turn.number turn.thread turn.is_thread in
+        let run = ended_run m starts x s.log is on.beginning turn.number turn.thread u.0 turn.is_thread u.1 in (
+          without_turn m starts x is causal turn.number turn.thread u.0 u.1 run turn.first turn.idle,
+          stands_for m starts x is causal turn.number turn.thread u.0 u.1 run turn.first turn.idle,
+          fewer m starts x is causal turn.number turn.thread u.0 u.1 run turn.first turn.idle,
+        )
+
+    covers_below : (n : ℕ) (x : LoggedRun) → event_count x.log < n → IsExecutionOf m starts x → IsCausal (execution x) → CoversFor m starts events q x
+    covers_below zero x few is causal = absurd (omega (arith, few))
+    covers_below (suc n) x few is causal = by (each x is causal)
+      where
+        goes : (y : LoggedRun) → StandsFor m starts y x → Covers events q y ⊎ GoesOn y s → CoversFor m starts events q x
+        goes y stands (inl covers) = (y, stands, covers)
+        goes y stands (inr on) =
+            let z = shorter y stands.is_execution stands.causal on in
+            let less = z.2 in
+            let small = stands.no_more in
+            let rest = covers_below n z.0 (omega (arith, few, less, small)) z.1.is_execution z.1.causal in
+            (rest.0, stands_through m starts rest.0 y x (stands_through m starts rest.0 z.0 y rest.1 z.1) stands, rest.2)
+
+        by : CoversFor m starts events p x → CoversFor m starts events q x
+        by (y, stands, covers) = goes y stands (rest_covers y covers)
+
+    pub covers_without : (x : LoggedRun) → IsExecutionOf m starts x → IsCausal (execution x) → CoversFor m starts events q x
+    covers_without x is causal = covers_below (suc (event_count x.log)) x (omega arith) is causal
 
 -- ---- in the end
 
@@ -162,10 +223,17 @@ module _ (m : Module) (starts : List Start) (events : ℕ) (p : Progress) (progr
     }
 
 -- where nothing is left, what is covered is found or excused
-pub none_left : (events : ℕ) (p : Progress) → p.work.items ≡ [] → (x : LoggedRun) → Covers events p x → Lists p.finished.items (ends_of x.log) ⊎ IsExcused events p.met x.log
+none_left : (events : ℕ) (p : Progress) → p.work.items ≡ [] → (x : LoggedRun) → Covers events p x → Lists p.finished.items (ends_of x.log) ⊎ IsExcused events p.met x.log
 none_left events p none x (left i s at on) = absurd (none-some s (ap (λ ss. slice_get ss i) (sym none) ∙ at))
 none_left events p none x (listed lists) = inl lists
 none_left events p none x (excused why) = inr why
+
+pub none_left_for : (m : Module) (starts : List Start) (events : ℕ) (p : Progress) → p.work.items ≡ [] → (x : LoggedRun) → CoversFor m starts events p x → Lists p.finished.items (ends_of x.log) ⊎ IsExcused events p.met x.log
+none_left_for m starts events p none x (y, stands, covers) = by (none_left events p none y covers)
+  where
+    by : Lists p.finished.items (ends_of y.log) ⊎ IsExcused events p.met y.log → Lists p.finished.items (ends_of x.log) ⊎ IsExcused events p.met x.log
+    by (inl lists) = inl (subst (Lists p.finished.items) stands.ends lists)
+    by (inr why) = inr (excuses_too m starts events p.met y x stands why)
 
 -- a list of which nothing could be taken is empty
 pub empty_if : {X : Type 0} (xs : List X) → (0 < length xs → ⊥) → xs ≡ []

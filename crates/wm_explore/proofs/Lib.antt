@@ -17,4 +17,7 @@ pub mod Progressing
 pub mod Making
 pub mod ReadsOf
 pub mod Extending
+pub mod ShorterRuns
+pub mod Replacing
+pub mod Shortening
 pub mod Exploring

@@ -4,4 +4,5 @@ pub mod Values
 pub mod Bounds
 pub mod Turns
 pub mod Judging
+pub mod Idle
 pub mod Search

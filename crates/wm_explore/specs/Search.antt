@@ -13,6 +13,7 @@ use Rattle.wm_explore.specs.declared.state.State.{State}
 use Rattle.wm_explore.specs.Bounds.{IsExcused}
 use Rattle.wm_explore.specs.Executions.{IsCausal, IsExecutionOf, IsOutcome, IsOutcomeWithin, ends_of}
 use Rattle.wm_event.specs.declared.witness.Witness.{Witness}
+use Rattle.wm_explore.specs.Idle.{StandsFor}
 use Rattle.wm_explore.specs.Judging.{IsAllowedWith}
 use Rattle.wm_explore.specs.States.{GoesOn, IsState}
 use Rattle.wm_valid.specs.Valid.{IsInit}
@@ -38,6 +39,10 @@ pub data Covers (events : ℕ) (p : Progress) (x : LoggedRun) : Type 0 where
   left : (i : ℕ) (s : State) → slice_get p.work.items i ≡ Some s → GoesOn x s → Covers events p x
   listed : Lists p.finished.items (ends_of x.log) → Covers events p x
   excused : IsExcused events p.met x.log → Covers events p x
+
+-- an execution that p covers stands for x
+abbrev pub CoversFor : Module → List Start → ℕ → Progress → LoggedRun → Type 0
+CoversFor m starts events p x = (y : LoggedRun) × StandsFor m starts y x × Covers events p y
 
 pub record IsProgress (m : Module) (starts : List Start) (p : Progress) : Type 0 where
   pub states : All (IsState starts) p.work.items

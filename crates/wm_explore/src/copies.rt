@@ -1,5 +1,5 @@
 //! Copies of logs.
-ghost use Rattle.std.specs.Prelude.{◌≡◌, IfOk};
+ghost use Rattle.std.specs.Prelude.{◌≡◌, ◌≤◌, length, take, IfOk};
 ghost use Rattle.wm_event.specs.Log.{IsLog};
 ghost use Rattle.wm_explore.specs.States.{extended, with_last};
 
@@ -25,6 +25,26 @@ fn copied_thread(alloc: Global, thread: &ThreadLog) -> Result<ThreadLog, AllocEr
 {
     let start = copied_start(alloc, &thread.start)?;
     let events = thread.events.as_slice().to_vec(alloc)?;
+    Ok(ThreadLog {
+        start,
+        end: thread.end,
+        steps: thread.steps,
+        events: List::from_vec(events),
+    })
+}
+
+/// A copy of the log of a thread with its first events only.
+pub(crate) fn first_events(
+    alloc: Global,
+    thread: &ThreadLog,
+    count: usize,
+) -> Result<ThreadLog, AllocError>
+    requires { count ≤ length thread.now.events }
+    ensures start { IfOk result (λ copy. copy.start ≡ thread.now.start) }
+    ensures events { IfOk result (λ copy. copy.events ≡ take count thread.now.events) }
+{
+    let start = copied_start(alloc, &thread.start)?;
+    let events = thread.events.as_slice()[..count].to_vec(alloc)?;
     Ok(ThreadLog {
         start,
         end: thread.end,

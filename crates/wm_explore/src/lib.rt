@@ -4,6 +4,7 @@
 mod bound;
 mod copies;
 mod exploration;
+mod idle;
 mod judge;
 mod search;
 mod state;

@@ -13,6 +13,7 @@ ghost use Rattle.wm_explore.specs.Turns.{EachEndsIn, MakesNext};
 use crate::bound::{Bound, Limits};
 use crate::copies::copied_start;
 use crate::exploration::{Exploration, Finished};
+use crate::idle::ends_idly;
 use crate::judge::{Permission, judged};
 use crate::state::State;
 use crate::turn::{Turn, next_turn};
@@ -281,7 +282,13 @@ pub fn explore(
                     met: progress.met,
                 });
             }
-            Some(state) => extend(alloc, module, limits, &state, &mut progress)?,
+            Some(state) => {
+                // An execution that goes on from here has a shorter one with its ends.
+                if ends_idly(alloc, module, &state)? {
+                    continue;
+                }
+                extend(alloc, module, limits, &state, &mut progress)?;
+            }
         }
     }
     progress.meet(Bound::Graphs);

@@ -1,4 +1,5 @@
 //! An active call, and the outcome of a step within it.
+ghost use Rattle.std.specs.Prelude.{◌≡◌, true};
 
 use crate::control_stack::ControlStack;
 use crate::locals::Locals;
@@ -10,6 +11,21 @@ pub struct CallFrame<'m> {
     pub func: usize,
     pub locals: Locals<'m>,
     pub control_stack: ControlStack,
+}
+
+impl<'m> CallFrame<'m> {
+    /// Whether both are calls of the same function, at the same place and with the same values.
+    pub fn is_same(&self, other: &CallFrame) -> bool
+        ensures { result ≡ true → self.now ≡ other.now }
+    {
+        if self.func != other.func {
+            return false;
+        }
+        if !self.locals.are_same(&other.locals) {
+            return false;
+        }
+        self.control_stack.is_same(&other.control_stack)
+    }
 }
 
 /// Where a function returns to.

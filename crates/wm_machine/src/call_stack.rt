@@ -1,5 +1,5 @@
 //! The calls that wait for another call.
-ghost use Rattle.std.specs.Prelude.{◌^◌, ◌≡◌, ◌≤◌, ◌<◌, ◌+◌, [], ◌∷◌, length, take, reverse, Some, OnErr, OnOk, IfOk};
+ghost use Rattle.std.specs.Prelude.{◌^◌, ◌≡◌, ◌≤◌, ◌<◌, ◌+◌, [], ◌∷◌, box_value, length, map, take, reverse, Some, true, OnErr, OnOk, IfOk};
 ghost use Rattle.wm_machine.specs.Inside.{ReturnsTo, called_frame, without_arguments};
 
 use crate::call_frame::{CallFrame, ReturnTo};
@@ -50,6 +50,13 @@ impl<'m> CallStack<'m> {
         self.depth
     }
 
+    /// Whether the same calls wait.
+    pub fn is_same(&self, other: &CallStack) -> bool
+        ensures { result ≡ true → self.now ≡ other.now }
+    {
+        are_same(&self.calls[..self.depth], &other.calls[..other.depth])
+    }
+
     /// Enters a function, which takes this number of operands of the running call as its arguments; the running call
     /// now waits. An `Err` changes nothing.
     pub fn enter(
@@ -95,6 +102,21 @@ impl<'m> CallStack<'m> {
         self.depth = last;
         Ok(ReturnTo::Caller)
     }
+}
+
+/// Whether two lists have the same calls.
+fn are_same(calls: &[Box<CallFrame>], others: &[Box<CallFrame>]) -> bool
+    ensures { result ≡ true → map box_value calls.now ≡ map box_value others.now }
+{
+    if calls.len() != others.len() {
+        return false;
+    }
+    for place in 0..calls.len() {
+        if !calls[place].is_same(&*others[place]) {
+            return false;
+        }
+    }
+    true
 }
 
 /// A call in a box.

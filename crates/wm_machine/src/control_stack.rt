@@ -2,12 +2,12 @@
 ghost use Rattle.std.specs.Prelude.{◌≡◌, ◌≤◌, ◌<◌, ◌-◌, ◌+◌, ◌^◌, [], ◌∷◌, length, drop, take, reverse, slice_get, OnOk, OnErr, IfSome, Some, None, true, false};
 ghost use Rattle.wm_machine.specs.Nest.{Nest, at_begin, closed, entered, given_up, unwound};
 
-use crate::value::TypedValue;
+use crate::value::{TypedValue, are_same as same_values};
 use std::alloc::{AllocError, Global};
 use std::marker::Model;
 
 /// The state of one block: the next instruction, and the start of its operands.
-#[derive(Clone, Copy)]
+#[derive(Clone, Copy, PartialEq, Eq)]
 struct ControlFrame {
     block: usize,
     at: usize,
@@ -93,6 +93,20 @@ impl ControlStack {
         ensures { result.now ≡ reverse (take count self.now.operands) }
     {
         &self.values[self.values.len() - count..]
+    }
+
+    /// Whether both are in the same blocks, at the same instructions and with the same operands. It may be false if only
+    /// values that no block has differ.
+    pub fn is_same(&self, other: &ControlStack) -> bool
+        ensures { result ≡ true → self.now ≡ other.now }
+    {
+        if !is_same(self.inner, other.inner) {
+            return false;
+        }
+        if !are_same(self.outer.as_slice(), other.outer.as_slice()) {
+            return false;
+        }
+        same_values(self.values.as_slice(), other.values.as_slice())
     }
 
     /// Goes back to the start of a function's body.
@@ -227,4 +241,26 @@ impl ControlStack {
         }
         let _left = self.give_up(carry);
     }
+}
+
+/// Whether two blocks are the same, at the same instruction.
+fn is_same(frame: ControlFrame, other: ControlFrame) -> bool
+    ensures { result ≡ true → frame ≡ other }
+{
+    frame == other
+}
+
+/// Whether two lists have the same blocks.
+fn are_same(frames: &[ControlFrame], others: &[ControlFrame]) -> bool
+    ensures { result ≡ true → frames.now ≡ others.now }
+{
+    if frames.len() != others.len() {
+        return false;
+    }
+    for place in 0..frames.len() {
+        if !is_same(frames[place], others[place]) {
+            return false;
+        }
+    }
+    true
 }

@@ -1,9 +1,9 @@
 //! The locals of a call (Core 1.0, section 4.4.7).
-ghost use Rattle.std.specs.Prelude.{◌≡◌, ◌<◌, ◌+◌, ◌++◌, length, map, slice_get, slice_set, nat_lt, [], OnOk, OnErr, IfOk};
+ghost use Rattle.std.specs.Prelude.{◌≡◌, true, ◌<◌, ◌+◌, ◌++◌, length, map, slice_get, slice_set, nat_lt, [], OnOk, OnErr, IfOk};
 ghost use Rattle.wm_machine.specs.Values.{zero_of};
 
 use crate::sparse_locals::SparseLocals;
-use crate::value::TypedValue;
+use crate::value::{TypedValue, is_same};
 use std::alloc::{AllocError, Global};
 use std::marker::Model;
 use wm_ast::ValType;
@@ -81,6 +81,24 @@ impl<'m> Locals<'m> {
         } else {
             get_unheld(self.unset, &self.sparse_locals, index - self.held.len())
         }
+    }
+
+    /// Whether there are as many locals, with the same values.
+    pub fn are_same(&self, other: &Locals) -> bool
+        ensures { result ≡ true → self.now ≡ other.now }
+    {
+        for index in 0..usize::MAX {
+            match (self.get(index), other.get(index)) {
+                (None, None) => return true,
+                (Some(value), Some(another)) => {
+                    if !is_same(value, another) {
+                        return false;
+                    }
+                }
+                (None, Some(_)) | (Some(_), None) => return false,
+            }
+        }
+        false
     }
 
     /// Sets a local. An `Err` changes nothing.

@@ -1,5 +1,5 @@
 //! A thread, step by step.
-ghost use Rattle.std.specs.Prelude.{◌≡◌, ◌≤◌, ◌<◌, ℕ, Some, Ok, None, Err, OnOk, OnErr, IfErr, IfOk};
+ghost use Rattle.std.specs.Prelude.{◌≡◌, ◌≤◌, ◌<◌, ℕ, Some, true, Ok, None, Err, OnOk, OnErr, IfErr, IfOk};
 ghost use Rattle.wm_valid.specs.Valid.{Valid};
 ghost use Rattle.wm_machine.specs.State.{config_of, need_of, position_of, read_in, given_by, RepliesTo};
 ghost use Rattle.wm_machine.specs.Step.{next_config, result_of, step};
@@ -19,7 +19,7 @@ use crate::functions::callable;
 use crate::perform::{next_op, step_in_frame};
 use crate::place::{Place, place_of};
 use crate::start::{any_past, first_globals, first_locals, func_of};
-use crate::value::TypedValue;
+use crate::value::{TypedValue, are_same};
 use std::alloc::Global;
 use std::marker::Model;
 use wm_ast::Module;
@@ -191,6 +191,24 @@ impl<'m> Thread<'m> {
             &self.running.control_stack,
         );
         CodePosition { func, block, at }
+    }
+
+    /// Whether both threads have the same calls, at the same instructions and with the same values, and the same globals.
+    /// Then threads of one module do the same from here on, on the same values read. It may be false for threads that
+    /// do the same.
+    pub fn is_same(&self, other: &Thread) -> bool
+        ensures { result ≡ true → self.now.module ≡ other.now.module → self.now ≡ other.now }
+    {
+        if self.end != other.end {
+            return false;
+        }
+        if !are_same(self.globals.as_slice(), other.globals.as_slice()) {
+            return false;
+        }
+        if !self.running.is_same(&*other.running) {
+            return false;
+        }
+        self.call_stack.is_same(&other.call_stack)
     }
 
     /// Makes a step of a thread that hasn't ended, with the value that its access reads. Without a value, an access

@@ -1,12 +1,12 @@
 //! Values with their types (Core 1.0, section 4.2.1).
-ghost use Rattle.std.specs.Prelude.{◌≡◌, IfSome};
+ghost use Rattle.std.specs.Prelude.{◌≡◌, true, IfSome};
 ghost use Rattle.wm_num.specs.Number.{IsOperand};
 
 use wm_ast::{ConstExpr, ValType};
 use wm_num::Width;
 
 /// A value: an i32 or an i64, as the unsigned integer with its bits.
-#[derive(Clone, Copy)]
+#[derive(Clone, Copy, PartialEq, Eq)]
 pub enum TypedValue {
     I32(u32),
     I64(u64),
@@ -70,4 +70,26 @@ impl TypedValue {
             ConstExpr::I64(number) => TypedValue::I64(number),
         }
     }
+}
+
+/// Whether two values are the same.
+pub fn is_same(value: TypedValue, other: TypedValue) -> bool
+    ensures { result ≡ true → value ≡ other }
+{
+    value == other
+}
+
+/// Whether two lists have the same values.
+pub fn are_same(values: &[TypedValue], others: &[TypedValue]) -> bool
+    ensures { result ≡ true → values.now ≡ others.now }
+{
+    if values.len() != others.len() {
+        return false;
+    }
+    for place in 0..values.len() {
+        if !is_same(values[place], others[place]) {
+            return false;
+        }
+    }
+    true
 }

@@ -12,7 +12,7 @@ use Rattle.wm_event.specs.Rules.{IsValid}
 use Rattle.wm_event.specs.Shape.{IsWellShaped}
 use Rattle.wm_part.specs.Cut.{cut}
 use Rattle.wm_part.specs.Moved.{IsInside, moved}
-use Rattle.wm_part.specs.Part.{HasItsPast, HasItsWriters, events_in, part}
+use Rattle.wm_part.specs.Part.{HasItsPast, HasItsWriters, IsWithin, events_in, part}
 use Rattle.wm_part.specs.Pick.{new_key, pick, with_number}
 
 -- any execution is valid if some execution is
@@ -63,6 +63,11 @@ PickHasAllEvents = (run : LoggedRun) (D : EventKey → Bool) → IsWellShaped ru
 abbrev pub PickKeepsNumbers : Type 0
 PickKeepsNumbers = (run : LoggedRun) (D : EventKey → Bool) → IsWellShaped run → HasItsWriters (execution run) D → (key : EventKey) (e : Event)
     → event_in (pick run D).log key ≡ Some e → event_in run.log key ≡ Some e
+
+-- the pick lies within the run, each event under its new number
+abbrev pub PickLiesUnderNewNumbers : Type 0
+PickLiesUnderNewNumbers = (run : LoggedRun) (D : EventKey → Bool) → IsWellShaped run → HasItsWriters (execution run) D
+    → IsWithin (execution (pick run D)) (execution run) 0 (λ key. key)
 
 -- a part may be moved from any address
 abbrev pub MovesNeedNoAlignment : Type 0

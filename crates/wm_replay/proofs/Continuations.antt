@@ -29,7 +29,7 @@ use Rattle.wm_replay.proofs.Runs.{more, more_none, next_event, steps_more}
 
 -- ---- more values to read
 
-abbrev with_more : List ℕ → Ran → Ran
+abbrev pub with_more : List ℕ → Ran → Ran
 with_more further ran = record { events = ran.events; config = ran.config; reads = ran.reads ++ further }
 
 abbrev taken_more : List ℕ → Taken → Taken
@@ -71,13 +71,13 @@ on_more m k further (Some ran) p next before e =
     ap (and_run_on m k) (before ran refl) ∙ with_taken_more m k further ran (take_read (access_of (step m 0 ran.config)) ran.reads) next refl e
 
 -- steps that are made on some values are made in the same way if more values come after them
-steps_on_more : (m : Module) (k : ℕ) (c : Config) (reads further : List ℕ) (j : ℕ) (ran : Ran) → steps m k c reads j ≡ Some ran
+pub steps_on_more : (m : Module) (k : ℕ) (c : Config) (reads further : List ℕ) (j : ℕ) (ran : Ran) → steps m k c reads j ≡ Some ran
     → steps m k c (reads ++ further) j ≡ Some (with_more further ran)
 steps_on_more m k c reads further zero ran e = ap (λ (x : Ran). Some (with_more further x)) (same_Some _ ran e)
 steps_on_more m k c reads further (suc j) ran e =
     on_more m k further (steps m k c reads j) (steps m k c (reads ++ further) j) ran (steps_on_more m k c reads further j) e
 
-reads_of_both : (es fs : List Event) → reads_of (es ++ fs) ≡ reads_of es ++ reads_of fs
+pub reads_of_both : (es fs : List Event) → reads_of (es ++ fs) ≡ reads_of es ++ reads_of fs
 reads_of_both [] fs = refl
 reads_of_both (e ∷ es) fs = by (reads e) (reads_of_both es fs)
   where
@@ -100,7 +100,7 @@ over_of (Over end) not = (end, refl)
 over_of (Running func vars body) not = absurd (not refl)
 
 -- a thread that has ended makes no step
-ended_stops : (m : Module) (c : Config) → end_of c ≢ Cut → step m 0 c ≡ NoStep
+pub ended_stops : (m : Module) (c : Config) → end_of c ≢ Cut → step m 0 c ≡ NoStep
 ended_stops m c not = let over = over_of c not in ap (step m 0) over.1
 
 module _ (m : Module) (k : ℕ) (t u : ThreadLog) (is : IsEndedRun m k t u) (c : Config) (j n : ℕ) (f : RunsByLog m k t 1000000 c j n) where

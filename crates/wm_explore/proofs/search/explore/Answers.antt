@@ -1,6 +1,6 @@
 use Rattle.std.proofs.Common.{◌≡◌, ◌<◌, ◌∷◌, ◌++◌, [], None, length, rules, vec_len, inr, refl, sym, ap, subst, ◌∙◌, arith}
 use Rattle.wm_explore.specs.declared.search.Progress.{Progress}
-use Rattle.wm_explore.proofs.Exploring.{begins, begins_covering, empty_if, explores, none_left, rest_progress, starts_length, still_covers, taken_is_state}
+use Rattle.wm_explore.proofs.Exploring.{begins, begins_covering, empty_if, explores, none_left_for, rest_progress, stands_itself, starts_length, still_covers_for, taken_is_state}
 use Rattle.wm_explore.proofs.search.explore.Goals as goal
 
 pub loop-graphs-init : goal.loop-graphs-init
@@ -8,14 +8,14 @@ loop-graphs-init c =
     let p : Progress = record { work = c.push.new.self; finished = c.new-2.result; met = None } in
     let work : c.push.new.self.items ≡ c.in_ok-first_state.field-0 ∷ [] = c.in_ok-push.ensures.items ∙ ap (λ xs. xs ++ c.in_ok-first_state.field-0 ∷ []) c.new.ensures.items in record {
       progress = begins c.args.starts.now c.in_ok-first_state.field-0 c.in_ok-first_state.ensures c.args.module.now c.args.limits.events p work c.new-2.ensures.items;
-      covers = λ x is causal. begins_covering c.args.starts.now c.in_ok-first_state.field-0 c.in_ok-first_state.ensures c.args.module.now c.args.limits.events p work c.new-2.ensures.items x is;
+      covers = λ x is causal. (x, stands_itself c.args.module.now c.args.starts.now x is causal, begins_covering c.args.starts.now c.in_ok-first_state.field-0 c.in_ok-first_state.ensures c.args.module.now c.args.limits.events p work c.new-2.ensures.items x is);
     }
 
 pub returns-in-None : goal.returns-in-None
 returns-in-None c =
     let long : length c.loop-graphs.progress.work.items ≡ vec_len c.loop-graphs.progress.work = search rules in
     explores c.args.module.now c.args.starts.now c.args.limits.events c.loop-graphs.progress c.loop-graphs.invariant.progress _ c.from_vec.ensures
-    (λ x is causal. none_left c.args.limits.events c.loop-graphs.progress (empty_if c.loop-graphs.progress.work.items (λ some. cc (c.in-None.ensures.variant.1 (subst (λ n. 0 < n) long some)))) x (c.loop-graphs.invariant.covers x is causal))
+    (λ x is causal. none_left_for c.args.module.now c.args.starts.now c.args.limits.events c.loop-graphs.progress (empty_if c.loop-graphs.progress.work.items (λ some. cc (c.in-None.ensures.variant.1 (subst (λ n. 0 < n) long some)))) x (c.loop-graphs.invariant.covers x is causal))
 
 pub extend-requires : goal.extend-requires
 extend-requires c = record {
@@ -38,7 +38,7 @@ loop-graphs-preserved c =
     let fine = taken_is_state m starts c.args.limits.events p c.loop-graphs.invariant.progress s q popped refl refl in
     let step = c.in_ok-extend-in-Some.ensures starts fine (rest_progress m starts c.args.limits.events p c.loop-graphs.invariant.progress s q popped refl refl) in record {
       progress = step.progress;
-      covers = λ x is causal. still_covers m starts c.args.limits.events p c.loop-graphs.invariant.progress s q popped refl refl c.extend.new.progress step x is causal (c.loop-graphs.invariant.covers x is causal);
+      covers = λ x is causal. still_covers_for m starts c.args.limits.events p c.loop-graphs.invariant.progress s q popped refl refl c.extend.new.progress step x (c.loop-graphs.invariant.covers x is causal);
     }
 
 pub returns : goal.returns

@@ -1,0 +1,113 @@
+//! Turns in which a thread only reads and comes back to where it was.
+ghost use Rattle.std.specs.Prelude.{◌≡◌, ◌≤◌, false, true, length, IfOk, IfSome, IsTrue};
+ghost use Rattle.wm_event.specs.Event.{writes as event_writes};
+ghost use Rattle.wm_explore.specs.Idle.{HasIdleTurn, IsAt, IsIdle};
+ghost use Rattle.wm_machine.specs.State.{config_of};
+ghost use Rattle.wm_replay.specs.Following.{HasPlaces};
+
+use crate::copies::first_events;
+use crate::state::State;
+use std::alloc::{AllocError, Global};
+use wm_event::{Event, MAX_STEPS, Op, ThreadLog};
+use wm_machine::{Need, Thread};
+use wm_replay::follow;
+use wm_valid::ValidModule;
+
+/// The thread after the events of its log, if it makes them within [`MAX_STEPS`] steps.
+fn reached<'m>(
+    alloc: Global,
+    module: &'m ValidModule,
+    stated: &ThreadLog,
+    number: usize,
+) -> Result<Option<Thread<'m>>, AllocError>
+    requires { HasPlaces number stated.now.events }
+    ensures at { IfOk result (λ found. IfSome found (λ thread. IsAt «module».now number stated.now (length stated.now.events) (config_of thread))) }
+    ensures same { IfOk result (λ found. IfSome found (λ thread. thread.module ≡ «module».now)) }
+{
+    match follow(alloc, module, stated, number, MAX_STEPS)? {
+        Err(_) => Ok(None),
+        Ok(followed) => {
+            if followed.events < stated.events.len() {
+                return Ok(None);
+            }
+            Ok(Some(followed.thread))
+        }
+    }
+}
+
+/// Whether a thread was after the first events of its log where another is now.
+fn was_at(
+    alloc: Global,
+    module: &ValidModule,
+    stated: &ThreadLog,
+    number: usize,
+    count: usize,
+    now: &Thread,
+) -> Result<bool, AllocError>
+    requires places { HasPlaces number stated.now.events }
+    requires count { count ≤ length stated.now.events }
+    requires same { now.now.module ≡ «module».now }
+    ensures { IfOk result (λ was. was ≡ true → IsAt «module».now number stated.now count (config_of now.now)) }
+{
+    let beginning = first_events(alloc, stated, count)?;
+    match reached(alloc, module, &beginning, number)? {
+        None => Ok(false),
+        Some(before) => Ok(before.is_same(now)),
+    }
+}
+
+/// Whether an access makes an event if it reads the value that the event read.
+fn is_made_by(event: &Event, op: Op) -> bool {
+    op.event(event.key(), event.read) == *event
+}
+
+/// Where an idle turn of a thread begins that ends with the last event of its log: the number of its first event.
+fn idle_from(
+    alloc: Global,
+    module: &ValidModule,
+    stated: &ThreadLog,
+    number: usize,
+) -> Result<Option<usize>, AllocError>
+    requires { HasPlaces number stated.now.events }
+    ensures { IfOk result (λ found. IfSome found (IsIdle «module».now number stated.now)) }
+{
+    let Some(now) = reached(alloc, module, stated, number)? else {
+        return Ok(None);
+    };
+    let Need::Access(next) = now.next() else {
+        return Ok(None);
+    };
+    let events = stated.events.as_slice();
+    for later in 0..events.len() {
+        let first = events.len() - 1 - later;
+        let event = &events[first];
+        if event.writes() {
+            return Ok(None);
+        }
+        if !is_made_by(event, next) {
+            continue;
+        }
+        if was_at(alloc, module, stated, number, first, &now)? {
+            return Ok(Some(first));
+        }
+    }
+    Ok(None)
+}
+
+/// Whether the last events of the thread that made the event that arrived last are an idle turn.
+pub(crate) fn ends_idly(
+    alloc: Global,
+    module: &ValidModule,
+    state: &State,
+) -> Result<bool, AllocError>
+    ensures { IfOk result (λ idle. idle ≡ true → HasIdleTurn «module».now state.now.log) }
+{
+    let Some(last) = state.arrived.as_slice().last() else {
+        return Ok(false);
+    };
+    let number = last.thread as usize;
+    match state.log.threads().get(number) {
+        None => Ok(false),
+        Some(stated) => Ok(idle_from(alloc, module, stated, number)?.is_some()),
+    }
+}
