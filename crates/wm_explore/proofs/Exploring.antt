@@ -174,19 +174,20 @@ module _ (m : Module) (starts : List Start) (events : ℕ) (p : Progress) (progr
 
     covers_below : (n : ℕ) (x : LoggedRun) → event_count x.log < n → IsExecutionOf m starts x → IsCausal (execution x) → CoversFor m starts events q x
     covers_below zero x few is causal = absurd (omega (arith, few))
-    covers_below (suc n) x few is causal = by (each x is causal)
+    covers_below (suc n) x few is causal = by (covers_below n) (each x is causal)
       where
-        goes : (y : LoggedRun) → StandsFor m starts y x → Covers events q y ⊎ GoesOn y s → CoversFor m starts events q x
-        goes y stands (inl covers) = (y, stands, covers)
-        goes y stands (inr on) =
+        goes : ((z : LoggedRun) → event_count z.log < n → IsExecutionOf m starts z → IsCausal (execution z) → CoversFor m starts events q z) → (y : LoggedRun) → StandsFor m starts y x
+            → Covers events q y ⊎ GoesOn y s → CoversFor m starts events q x
+        goes below y stands (inl covers) = (y, stands, covers)
+        goes below y stands (inr on) =
             let z = shorter y stands.is_execution stands.causal on in
             let less = z.2 in
             let small = stands.no_more in
-            let rest = covers_below n z.0 (omega (arith, few, less, small)) z.1.is_execution z.1.causal in
+            let rest = below z.0 (omega (arith, few, less, small)) z.1.is_execution z.1.causal in
             (rest.0, stands_through m starts rest.0 y x (stands_through m starts rest.0 z.0 y rest.1 z.1) stands, rest.2)
 
-        by : CoversFor m starts events p x → CoversFor m starts events q x
-        by (y, stands, covers) = goes y stands (rest_covers y covers)
+        by : ((z : LoggedRun) → event_count z.log < n → IsExecutionOf m starts z → IsCausal (execution z) → CoversFor m starts events q z) → CoversFor m starts events p x → CoversFor m starts events q x
+        by below (y, stands, covers) = goes below y stands (rest_covers y covers)
 
     pub covers_without : (x : LoggedRun) → IsExecutionOf m starts x → IsCausal (execution x) → CoversFor m starts events q x
     covers_without x is causal = covers_below (suc (event_count x.log)) x (omega arith) is causal

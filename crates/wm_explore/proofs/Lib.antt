@@ -17,7 +17,9 @@ pub mod Progressing
 pub mod Making
 pub mod ReadsOf
 pub mod Extending
+pub mod Idling
 pub mod ShorterRuns
 pub mod Replacing
 pub mod Shortening
+pub mod UniformLaw
 pub mod Exploring

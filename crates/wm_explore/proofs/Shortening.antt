@@ -1,19 +1,18 @@
 -- An execution without an idle turn of a thread.
-use Rattle.std.proofs.Common.{◌≡◌, ℕ, zero, suc, ◌+◌, ◌-◌, ◌<◌, ◌≤◌, ◌==◌, Bool, true, false, inl, inr, List, [], ◌∷◌, ◌++◌, length, map, take, drop, Option, None, Some, IsSome, IsTrue, refl, sym, ap, subst, ◌∙◌, length-append, length-take-le, length-drop, arith, nat_le, nat_lt, ◌&&◌, if◌then◌else◌}
+use Rattle.std.proofs.Common.{◌≡◌, ℕ, zero, suc, ◌+◌, ◌-◌, ◌<◌, ◌≤◌, ◌==◌, Bool, true, false, inl, inr, List, [], ◌∷◌, ◌++◌, length, take, drop, Option, None, Some, IsSome, IsTrue, refl, sym, ap, subst, ◌∙◌, length-append, length-take-le, length-drop, arith, nat_le, nat_lt, ◌&&◌, if◌then◌else◌}
 use Rattle.std.specs.Prelude.{◌≢◌, ◌⊎◌, not, option_and_then, slice_get}
 use Rattle.std.proofs.lemmas.Bool.{cases_Bool, cases_eq, cases_lt, eq-eqb, false≢true, le-leb, le-ltb, lt-leb, lt-ltb, ne_eqb}
-use Rattle.std.proofs.lemmas.Option.{none-some, same_Some, slice_get_within}
+use Rattle.std.proofs.lemmas.List.{take-append-drop}
+use Rattle.std.proofs.lemmas.Option.{none-some, same_Some}
 use Rattle.wm_ast.specs.declared.module.Module.{Module}
 use Rattle.wm_access.specs.AccessWidth.{bytes_of}
 use Rattle.wm_event.specs.Event.{byte_written, writes}
 use Rattle.wm_event.specs.Byte.{byte_of}
-use Rattle.wm_event.specs.Execution.{Execution, ReadsFrom, byte_by}
-use Rattle.wm_event.specs.HappensBefore.{SequencedBefore}
-use Rattle.wm_event.specs.Log.{HasKeys, event_in}
+use Rattle.wm_event.specs.Execution.{ReadsFrom, byte_by}
+use Rattle.wm_event.specs.Log.{event_in}
 use Rattle.wm_event.specs.LoggedRun.{LoggedRun, execution}
 use Rattle.wm_event.specs.Shape.{event_count}
 use Rattle.wm_event.specs.declared.event.Event.{Event}
-use Rattle.wm_event.specs.declared.event.EventId.{EventId}
 use Rattle.wm_event.specs.declared.event.EventId.TheVariants.{At}
 use Rattle.wm_event.specs.declared.event.EventKey.{EventKey}
 use Rattle.wm_event.specs.declared.log.End.TheVariants.{Cut}
@@ -25,28 +24,28 @@ use Rattle.wm_part.specs.Pick.{kept, numbered, of_thread, pick, pick_threads, wi
 use Rattle.wm_part.proofs.PickLaw.{pick-is-valid, pick-lies-within}
 use Rattle.wm_replay.specs.Continuing.{IsEndedRun}
 use Rattle.wm_replay.specs.Replay.{IsRun}
-use Rattle.wm_explore.specs.Executions.{HasTimes, IsCausal, IsExecutionOf, IsWithin, ends_of, starts_of}
+use Rattle.wm_explore.specs.Executions.{IsCausal, IsExecutionOf, IsWithin}
 use Rattle.wm_explore.specs.Idle.{IsIdle, StandsFor, shortened, without}
 use Rattle.wm_explore.specs.Judging.{IsAllowedWith, run_with}
 use Rattle.wm_explore.proofs.Alike.{allowed_too, events_of, holds_too}
-use Rattle.wm_explore.proofs.Beginnings.{event_at, some_of, thread_of_event}
+use Rattle.wm_explore.proofs.Beginnings.{event_at, some_of}
 use Rattle.wm_explore.proofs.Replacing.{at_replaced, replaced, replaced_count, replaced_ends, replaced_starts}
 use Rattle.wm_explore.proofs.ShorterRuns.{length_numbered, numbered_both, shorter_run}
 
 -- ---- which events stay
 
 -- below i, or not below n
-abbrev is_outside : ℕ → ℕ → ℕ → Bool
+abbrev pub is_outside : ℕ → ℕ → ℕ → Bool
 is_outside i n j = if nat_lt j i then true else nat_le n j
 
 -- all but those of thread k from number i on and below n
-abbrev stays : ℕ → ℕ → ℕ → EventKey → Bool
+abbrev pub stays : ℕ → ℕ → ℕ → EventKey → Bool
 stays k i n key = if key.thread == k then is_outside i n key.number else true
 
 outside_kept : {X : Type 0} (i n o : ℕ) (xs : List X) → i ≤ n → kept (is_outside i n) o xs ≡ take (i - o) xs ++ drop (n - o) xs
 outside_kept i n o [] le = empty (i - o) (n - o)
   where
-    empty : {X : Type 0} (a b : ℕ) → [] {0} {X} ≡ take a ([] {0} {X}) ++ drop b ([] {0} {X})
+    empty : {X : Type 0} (a b : ℕ) → ◌≡◌ {A = List X} [] (take a [] ++ drop b [])
     empty zero zero = refl
     empty zero (suc b) = refl
     empty (suc a) zero = refl
@@ -105,21 +104,22 @@ at_taken (suc n) [] j x at = absurd (none-some x at)
 at_taken (suc n) (y ∷ xs) zero x at = at
 at_taken (suc n) (y ∷ xs) (suc j) x at = at_taken n xs j x at
 
-longest : {m : Module} {k : ℕ} {t u : ThreadLog} → IsEndedRun m k t u → length t.events ≤ length u.events
-longest {m} {k} {t} {u} run = let e : length t.events ≡ length (take (length t.events) u.events) = ap length run.events in by e (cases_lt (length u.events) (length t.events))
-  where
-    by : length t.events ≡ length (take (length t.events) u.events) → (length u.events < length t.events) ⊎ (length t.events ≤ length u.events) → length t.events ≤ length u.events
-    by e (inr le) = le
-    by e (inl gt) = let l : length (take (length t.events) u.events) ≤ length u.events = omega arith in omega (arith, e, l)
+longest : (m : Module) (k : ℕ) (t u : ThreadLog) → IsEndedRun m k t u → length t.events ≤ length u.events
+longest m k t u run =
+    let n = length t.events in
+    let e : n ≡ length (take n u.events) = ap length run.events in
+    let l = length-append (take n u.events) (drop n u.events) in
+    let w : length (take n u.events ++ drop n u.events) ≡ length u.events = ap length (take-append-drop n u.events) in
+    omega (arith, e, l, w)
 
 -- ---- the execution
 
 module _ (m : Module) (starts : List Start) (x : LoggedRun) (is : IsExecutionOf m starts x) (causal : IsCausal (execution x)) (k : ℕ) (t u : ThreadLog) (at_u : slice_get x.log k ≡ Some u) (run : IsEndedRun m k t u) (i : ℕ)
     (idle : IsIdle m k t i) where
-  abbrev n : ℕ
+  abbrev pub n : ℕ
   n = length t.events
 
-  abbrev D : EventKey → Bool
+  abbrev pub D : EventKey → Bool
   D = stays k i n
 
   le : i ≤ n
@@ -166,8 +166,8 @@ module _ (m : Module) (starts : List Start) (x : LoggedRun) (is : IsExecutionOf 
       wrote f a value h = by (cases_Bool (writes f))
         where
           by : (writes f ≡ true) ⊎ (writes f ≡ false) → writes f ≡ true
-          by (inl yes) = yes
-          by (inr no) = absurd (none-some value (sym (ap (λ c. if c && (nat_le f.address a && nat_lt a (f.address + bytes_of f.width)) then Some (byte_of f.written (a - f.address)) else None) no) ∙ h))
+          by (inl does) = does
+          by (inr not) = absurd (none-some value (sym (ap (λ c. if c && (nat_le f.address a && nat_lt a (f.address + bytes_of f.width)) then Some (byte_of f.written (a - f.address)) else None) not) ∙ h))
 
       left : (o : Option Event) → event_in x.log w ≡ o → (e : Event) → byte_by (execution x) (At w) (e.address + b) ≡ Some (byte_of e.read b) → (f : Event) × (event_in x.log w ≡ Some f) × (writes f ≡ true)
       left None at e h = absurd (none-some _ (sym (ap (option_and_then (λ f. byte_written f (e.address + b))) at) ∙ h))
@@ -182,17 +182,17 @@ module _ (m : Module) (starts : List Start) (x : LoggedRun) (is : IsExecutionOf 
 
   -- ---- its log
 
-  s : ℕ
+  pub s : ℕ
   s = (shorter_run m k t u run i idle).0
 
-  short : ThreadLog
+  abbrev pub short : ThreadLog
   short = shortened i n s u
 
   abbrev HaveNumbers : List ThreadLog → Type 0
   HaveNumbers log = (c : ℕ) (v : ThreadLog) → slice_get log c ≡ Some v → (j : ℕ) (e : Event) → slice_get v.events j ≡ Some e → e.number ≡ j
 
   long : n ≤ length u.events
-  long = longest run
+  long = longest m k t u run
 
   other : (o : ℕ) (v : ThreadLog) → o ≢ k → ((j : ℕ) (e : Event) → slice_get v.events j ≡ Some e → e.number ≡ j) → numbered 0 (kept (of_thread D o) 0 v.events) ≡ v.events
   other o v not have =
@@ -228,7 +228,7 @@ module _ (m : Module) (starts : List Start) (x : LoggedRun) (is : IsExecutionOf 
       ap (λ (es : List Event). es ∷ events_of (pick_threads D (suc o) log)) (other o v (λ same. absurd (omega (arith, e, same))) (have 0 v refl))
       ∙ ap (λ (ess : List (List Event)). v.events ∷ ess) (alike_from (suc o) j log (omega (arith, e)) at (λ c. have (suc c)))
 
-  abbrev w : Witness
+  abbrev pub w : Witness
   w = (pick x D).witness
 
   -- x without the turn
@@ -257,9 +257,11 @@ module _ (m : Module) (starts : List Start) (x : LoggedRun) (is : IsExecutionOf 
       )
 
   its_run : IsRun m k short
+  unfolding s
   its_run = (shorter_run m k t u run i idle).2
 
   no_longer : s ≤ u.steps
+  unfolding s
   no_longer = (shorter_run m k t u run i idle).1
 
   its_length : length short.events + (n - i) ≡ length u.events

@@ -1,18 +1,16 @@
 -- A run without one of its idle turns is a run.
 use Rattle.std.proofs.Common.{◌≡◌, ℕ, zero, suc, ◌+◌, ◌-◌, ◌<◌, ◌≤◌, Bool, true, false, inl, inr, List, [], ◌∷◌, ◌++◌, length, take, drop, Option, None, Some, Ok, refl, sym, ap, subst, ◌∙◌, length-append, length-take-le, append_assoc, arith, if◌then◌else◌}
-use Rattle.std.specs.Prelude.{◌≢◌, ◌⊎◌, Result, slice_get}
+use Rattle.std.specs.Prelude.{◌⊎◌, Result}
 use Rattle.std.proofs.lemmas.Bool.{cases_order}
 use Rattle.std.proofs.lemmas.List.{append-nil, take-append-drop}
 use Rattle.std.proofs.lemmas.Option.{none-some, same_Some}
 use Rattle.wm_ast.specs.declared.module.Module.{Module}
 use Rattle.wm_event.specs.declared.event.Event.{Event}
 use Rattle.wm_event.specs.declared.log.End.{End}
-use Rattle.wm_event.specs.declared.log.End.TheVariants.{Cut}
 use Rattle.wm_event.specs.declared.log.Start.{Start}
 use Rattle.wm_event.specs.declared.log.ThreadLog.{ThreadLog}
 use Rattle.wm_event.specs.declared.op.OpFields.{OpFields}
 use Rattle.wm_event.specs.Event.{reads}
-use Rattle.wm_machine.specs.declared.fault.StartFault.{StartFault}
 use Rattle.wm_machine.specs.Term.{Config, NoStep, ReducesTo, Step}
 use Rattle.wm_machine.specs.Step.{access_of, step}
 use Rattle.wm_machine.specs.Run.{Outcome, Ran, Taken, and_run_on, end_of, noted, outcome_of, outcome_with, ran_on, ran_with, run_from, run_on, steps, take_read}
@@ -125,7 +123,7 @@ no_more : (reads : List ℕ) (ran : Ran) (out : Outcome) → outcome_with reads 
 no_more [] ran out h = refl
 no_more (r ∷ reads) ran out h = absurd (none-some out h)
 
-same_ok : {A E : Type 0} (d a b : A) → Ok {A} {E} a ≡ Ok b → a ≡ b
+same_ok : {A E : Type 0} (d a b : A) → ◌≡◌ {A = Result A E} (Ok a) (Ok b) → a ≡ b
 same_ok {A} {E} d a b h = ap (λ (r : Result A E). of r) h
   where
     of : Result A E → A
@@ -211,15 +209,11 @@ module _ (m : Module) (k : ℕ) (t u : ThreadLog) (is : IsEndedRun m k t u) wher
     one_start = same_ok a.start a.start b.start (sym a.is_start ∙ b.is_start)
 
     long : n ≤ length u.events
-    long = let e : n ≡ length (take n u.events) = ap length is.events in short e
-      where
-        short : n ≡ length (take n u.events) → n ≤ length u.events
-        short e = by (cases_order n (length u.events))
-          where
-            by : (n ≡ length u.events) ⊎ ((n < length u.events) ⊎ (length u.events < n)) → n ≤ length u.events
-            by (inl e) = omega (arith, e)
-            by (inr (inl lt)) = omega (arith, lt)
-            by (inr (inr gt)) = let l : length (take n u.events) ≤ length u.events = omega arith in omega (arith, e, l)
+    long =
+        let e : n ≡ length (take n u.events) = ap length is.events in
+        let l = length-append (take n u.events) (drop n u.events) in
+        let w : length (take n u.events ++ drop n u.events) ≡ length u.events = ap length (take-append-drop n u.events) in
+        omega (arith, e, l, w)
 
     -- the turn takes steps
     rises : b.count ≤ a.count
@@ -242,13 +236,13 @@ module _ (m : Module) (k : ℕ) (t u : ThreadLog) (is : IsEndedRun m k t u) wher
         by (inr (inl lt)) = omega (arith, lt)
         by (inr (inr gt)) = absurd (not gt)
 
-    d : ℕ
+    abbrev d : ℕ
     d = u.steps - a.count
 
     whole : WholeRun m k u a.start
     whole = whole_run m k u a.start (same_start ∙ a.is_start) is.is_run
 
-    from : Ran
+    abbrev from : Ran
     from = record { events = take n u.events; config = idle.config; reads = reads_of (drop n u.events) }
 
     goes_on : more m k d (Some from) ≡ Some whole.ran

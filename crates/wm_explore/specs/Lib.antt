@@ -5,4 +5,5 @@ pub mod Bounds
 pub mod Turns
 pub mod Judging
 pub mod Idle
+pub mod Uniform
 pub mod Search

@@ -6,6 +6,7 @@ mod copies;
 mod exploration;
 mod idle;
 mod judge;
+mod law;
 mod search;
 mod state;
 mod turn;
@@ -13,4 +14,5 @@ mod values;
 
 pub use bound::{Bound, Limits};
 pub use exploration::{Exploration, Finished};
+pub use law::uniform_is_causal;
 pub use search::explore;

@@ -1,6 +1,6 @@
 use Rattle.std.proofs.Common.{◌≡◌, ◌<◌, ◌∷◌, ◌++◌, [], None, length, rules, vec_len, inr, refl, sym, ap, subst, ◌∙◌, arith}
 use Rattle.wm_explore.specs.declared.search.Progress.{Progress}
-use Rattle.wm_explore.proofs.Exploring.{begins, begins_covering, empty_if, explores, none_left_for, rest_progress, stands_itself, starts_length, still_covers_for, taken_is_state}
+use Rattle.wm_explore.proofs.Exploring.{begins, begins_covering, covers_without, empty_if, explores, none_left_for, rest_progress, stands_itself, starts_length, still_covers_for, taken_is_state}
 use Rattle.wm_explore.proofs.search.explore.Goals as goal
 
 pub loop-graphs-init : goal.loop-graphs-init
@@ -39,6 +39,18 @@ loop-graphs-preserved c =
     let step = c.in_ok-extend-in-Some.ensures starts fine (rest_progress m starts c.args.limits.events p c.loop-graphs.invariant.progress s q popped refl refl) in record {
       progress = step.progress;
       covers = λ x is causal. still_covers_for m starts c.args.limits.events p c.loop-graphs.invariant.progress s q popped refl refl c.extend.new.progress step x (c.loop-graphs.invariant.covers x is causal);
+    }
+
+pub loop-graphs-preserved-then-branch : goal.loop-graphs-preserved-then-branch
+loop-graphs-preserved-then-branch c =
+    let m = c.args.module.now in
+    let starts = c.args.starts.now in
+    let p = c.loop-graphs.progress in
+    let q : Progress = record { work = c.pop.new.self; finished = p.finished; met = p.met } in
+    let s = c.in-Some.state in
+    let popped : p.work.items ≡ q.work.items ++ s ∷ [] = c.in-Some.ensures.items in record {
+      progress = rest_progress m starts c.args.limits.events p c.loop-graphs.invariant.progress s q popped refl refl;
+      covers = covers_without m starts c.args.limits.events p c.loop-graphs.invariant.progress s q popped refl refl (c.in_ok-ends_idly-in-Some.ensures c.if-branch.true) c.loop-graphs.invariant.covers;
     }
 
 pub returns : goal.returns
