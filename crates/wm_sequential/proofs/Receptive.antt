@@ -1,5 +1,5 @@
 -- The executions of a module are receptive: a read may take the bytes of a write that it races with.
-use Rattle.std.proofs.Common.{◌≡◌, ◌≢◌, ℕ, zero, suc, ◌+◌, ◌-◌, ◌*◌, ◌%◌, ◌^◌, ◌<◌, ◌≤◌, ◌==◌, ◌⊎◌, true, false, List, [], ◌∷◌, ◌++◌, get_or, length, take, slice_get, Option, None, Some, IsSome, IsTrue, is_some, refl, sym, ap, ◌∙◌, subst, arith, inl, inr, ⊎_elim, if◌then◌else◌}
+use Rattle.std.proofs.Common.{◌≡◌, ◌≢◌, ℕ, zero, suc, ◌+◌, ◌-◌, ◌*◌, ◌%◌, ◌^◌, ◌<◌, ◌≤◌, ◌==◌, true, false, List, [], ◌∷◌, ◌++◌, get_or, length, take, slice_get, Option, None, Some, IsSome, IsTrue, is_some, refl, sym, ap, ◌∙◌, subst, arith, inl, ⊎_elim, if◌then◌else◌}
 use Rattle.std.specs.Prelude.{option_and_then, unwrap_or}
 use Rattle.std.proofs.lemmas.Bool.{and_from, cases_Bool, cases_eq, cases_lt, eq-eqb, false≢true}
 use Rattle.std.proofs.lemmas.Option.{none-some, same_Some, slice_get-get_or, slice_get_past, slice_get_within}
@@ -32,7 +32,7 @@ use Rattle.wm_sequential.proofs.Cuts.{HoldsBelow, cut-at, cut-end, cut-past, hol
 use Rattle.wm_sequential.proofs.LastWrites.{IsLeading, LastLeading, NewSource, choose, new-byte, new-source, places-bound, written-by}
 use Rattle.wm_sequential.proofs.LastWrites.NewSource.{of_leading, of_v}
 use Rattle.wm_sequential.proofs.Leading.{leads-on, not-after-read, writes-none}
-use Rattle.wm_sequential.proofs.Steps.{some_of}
+use Rattle.wm_sequential.proofs.Steps.{same-keys, some_of}
 use Rattle.wm_sequential.proofs.ThreadRuns.{ChangedRun, OneAccess, changed-run, cut-run, one-access}
 
 length-starts : (log : List ThreadLog) → length (starts_of log) ≡ length log
@@ -49,15 +49,6 @@ module _ (p : Program) (x : Execution) (ex : IsExecutionOf p x) (valid : IsValid
 
   abbrev key-at : ℕ → ℕ → EventKey
   key-at t i = record { thread = t; number = i }
-
-  same-keys : (key : EventKey) → (key ≡ r) ⊎ (key ≢ r)
-  same-keys key = ⊎_elim
-      (λ (t : key.thread ≡ r.thread). ⊎_elim
-      (λ (n : key.number ≡ r.number). inl (λ i. record { thread = t i; number = n i }))
-      (λ (n : key.number ≢ r.number). inr (λ h. n (ap (λ (k : EventKey). k.number) h)))
-      (cases_eq key.number r.number))
-      (λ (t : key.thread ≢ r.thread). inr (λ h. t (ap (λ (k : EventKey). k.thread) h)))
-      (cases_eq key.thread r.thread)
 
   -- ---- the threads
 
@@ -125,7 +116,7 @@ module _ (p : Program) (x : Execution) (ex : IsExecutionOf p x) (valid : IsValid
         let z : e.address + k - e.address ≡ k = omega arith in
         let l = slice_get_within ws k w at in
         let here : byte-at (e.address + k) ≡ b.byte = ap (λ i. unwrap_or (option_and_then (λ w. byte_by x w (e.address + k)) (slice_get ws i)) 0) z
-            ∙ ap (λ o. unwrap_or (option_and_then (λ w. byte_by x w (e.address + k)) o) 0) at ∙ ap (λ o. unwrap_or o 0) b.is in
+        ∙ ap (λ o. unwrap_or (option_and_then (λ w. byte_by x w (e.address + k)) o) 0) at ∙ ap (λ o. unwrap_or o 0) b.is in
         let digit : byte_of value k ≡ byte-at (e.address + k) % 256 = byte_of_value cell small e.address (bytes_of e.width) k (omega (arith, l, count)) in
         let below = b.small in
         let whole : b.byte % 256 ≡ b.byte = omega (arith, below) in
@@ -458,12 +449,12 @@ module _ (p : Program) (x : Execution) (ex : IsExecutionOf p x) (valid : IsValid
           (λ (a_is : a ≡ r). ⊎_elim
           (λ (b_is : b ≡ r). a_is ∙ sym b_is)
           (λ (other : b ≢ r). let l = is-last b other k in let m : y.place_of a ≡ y.place_of r = ap y.place_of a_is in absurd (omega (arith, l, m, same)))
-          (same-keys b))
+          (same-keys b r))
           (λ (a_other : a ≢ r). ⊎_elim
           (λ (b_is : b ≡ r). let l = is-last a a_other h in let m : y.place_of b ≡ y.place_of r = ap y.place_of b_is in absurd (omega (arith, l, m, same)))
           (λ (b_other : b ≢ r). ex.places a b (some-was a a_other h) (some-was b b_other k) (sym (other-place a a_other) ∙ same ∙ other-place b b_other))
-          (same-keys b))
-          (same-keys a)
+          (same-keys b r))
+          (same-keys a r)
 
       made-width : read_width made ≡ bytes_of e.width
       made-width = ap (λ b. if b then bytes_of made.width else 0) one.does ∙ ap bytes_of one.like.width
@@ -482,7 +473,7 @@ module _ (p : Program) (x : Execution) (ex : IsExecutionOf p x) (valid : IsValid
             let here : made ≡ f = same_Some made f (sym is-read ∙ ap y.event_of (sym same) ∙ at) in
             ap (λ key. length (y.writers_of key)) same ∙ ap (λ ws. length ws) own-writers ∙ count ∙ sym made-width ∙ ap read_width here)
             (λ (other : key ≢ r). ap (λ ws. length ws) (other-writers key other) ∙ ex.writers key f (was key f other at).0)
-            (same-keys key);
+            (same-keys key r);
         places = distinct;
         initial = ex.initial;
       }

@@ -60,9 +60,9 @@ kinds-fail kept =
     let start = c.1.start in
     let events = c.1.made in
     reads-one c.0.steps c.0.end c.1.fewer (
-      sym (λ i. run exchange 0 (start i).name (start i).args (reads_of (events i)) c.0.steps)
-      ∙ c.1.run
-      ∙ (λ i. Some record { events = events i; end = c.0.end })
+    sym (λ i. run exchange 0 (start i).name (start i).args (reads_of (events i)) c.0.steps)
+    ∙ c.1.run
+    ∙ (λ i. Some record { events = events i; end = c.0.end })
     )
 
 -- it can't read what doesn't fit
@@ -82,7 +82,7 @@ any-value-fails any =
     let one = one-access fails c.1 (2 ^ 32) c.2 refl in
     let read : reads_of (c.1 ∷ []) ≡ 2 ^ 32 ∷ [] = ap (λ b. if b then c.1.read ∷ [] else []) one.does ∙ ap (λ n. n ∷ []) one.read in
     reads-misfit c.0.steps record { events = c.0.events; end = c.0.end } c.3.fewer (
-      sym (ap (λ rs. run exchange 0 [] [] rs c.0.steps) read)
-      ∙ sym (λ i. run exchange 0 (start i).name (start i).args (reads_of (events i)) c.0.steps)
-      ∙ c.3.run
+    sym (ap (λ rs. run exchange 0 [] [] rs c.0.steps) read)
+    ∙ sym (λ i. run exchange 0 (start i).name (start i).args (reads_of (events i)) c.0.steps)
+    ∙ c.3.run
     )
