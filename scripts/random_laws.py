@@ -358,17 +358,27 @@ class Case:
             return True
         one, other = self.chance.choice(mixed)
         read, write = (one, other) if one.kind == "r" else (other, one)
-        kept = {event for event in self.order if not self.execution.before(read, event)}
-        before = read.read, list(read.writers)
-        for byte, cell in enumerate(range(read.address, read.address + read.width)):
-            if write.writes(cell):
-                read.writers[byte] = write
-                set_byte(read, byte, write.byte_written(cell))
-        threads, order = part_of(self.threads, self.order, kept)
+        before = read.kind, read.read, read.written, list(read.writers)
+        threads, order = self.cut(read, write)
         candidate, _ = judged(self.chance, threads, order, MEMORY, overlap_by_the_letter)
         holds = not Execution(threads, order).first_faults() and candidate.has_data_race()
-        read.read, read.writers = before
+        read.kind, read.read, read.written, read.writers = before
         return holds
+
+    def cut(self, read: Event, write: Event) -> tuple[list[list[Event]], list[Event]]:
+        """What happens before a read or a write, and both. The read is the last event, and takes what the write writes,
+        and else the last bytes. If it is atomic, it may now write, as a compare-exchange does that no longer fails."""
+        happens = self.execution.before
+        kept = {event for event in self.order if event is write or happens(event, read) or happens(event, write)}
+        _, earlier = part_of(self.threads, self.order, kept)
+        for byte, cell in enumerate(range(read.address, read.address + read.width)):
+            last: list[Writer] = [INIT, *(event for event in earlier if event.writes(cell))]
+            read.writers[byte] = write if write.writes(cell) else last[-1]
+            set_byte(read, byte, read.writers[byte].byte_written(cell))
+        if read.atomic and self.chance.random() < 0.5:
+            read.kind, read.written = "x", self.chance.getrandbits(8 * read.width)
+        threads, _ = part_of(self.threads, self.order, kept | {read})
+        return threads, [*earlier, read]
 
 
 def compare(options: argparse.Namespace, tally: harness.Tally) -> collections.Counter[str]:

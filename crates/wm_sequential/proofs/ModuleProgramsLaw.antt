@@ -1,4 +1,4 @@
--- Data race free programs without compare-exchange are sequential.
+-- Data race free programs are sequential.
 use Rattle.std.proofs.Common.{◌≡◌, ℕ, ◌<◌, Bool, true, false, length, slice_get, IsTrue, refl, sym, ap, ◌∙◌, arith, if◌then◌else◌}
 use Rattle.std.proofs.lemmas.Option.{same_Some, slice_get_within}
 use Rattle.wm_access.specs.AccessWidth.{bytes_of}
@@ -17,10 +17,10 @@ read-within true n m k e l = (refl, omega (arith, e, l))
 read-within false n m k e l = absurd (omega (arith, e, l))
 
 pub data-race-free-programs-are-sequential : DataRaceFreeProgramsAreSequential
-data-race-free-programs-are-sequential p run none free is_log initial shape valid =
+data-race-free-programs-are-sequential p run free is_log initial shape valid =
     race-free-runs-are-sequential run shape valid (standard-race-freedom-is-enough (IsExecutionOf p)
-    (λ x r v e g ex valid is_r is_v does only writes_v overlap unordered. receptive p none x ex valid r v e g is_r is_v does only unordered)
-    counts free (execution run) itself valid)
+    (λ x r v e g ex valid none is_r is_v does only does_write unordered. receptive p x ex valid none r v e g is_r is_v does only does_write unordered)
+    (λ x ex. (counts x ex, ex.places)) free (execution run) itself valid)
   where
     counts : (x : Execution) → IsExecutionOf p x → ReadsItsBytes x
     counts x ex r e k w is_r from = read-within (reads e) (bytes_of e.width) (length (x.writers_of r)) k (ex.writers r e is_r) (slice_get_within (x.writers_of r) k w from)

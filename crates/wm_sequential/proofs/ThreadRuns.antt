@@ -12,14 +12,15 @@ use Rattle.wm_event.specs.declared.log.ThreadLog.{ThreadLog}
 use Rattle.wm_event.specs.declared.op.OpFields.{OpFields}
 use Rattle.wm_event.specs.declared.op.OpKind.{OpKind}
 use Rattle.wm_event.specs.declared.op.OpKind.TheVariants.{Read, Write, Rmw, CmpXchg}
-use Rattle.wm_event.specs.Event.{kind_reads, kind_writes, reads, writes}
+use Rattle.wm_event.specs.Event.{key_of, kind_reads, reads}
 use Rattle.wm_event.specs.Op.{event_made, kind_finds, made_kind, made_read}
 use Rattle.wm_machine.specs.Term.{Config, NoStep, ReducesTo, Step}
 use Rattle.wm_machine.specs.Step.{access_of, step}
 use Rattle.wm_machine.specs.Run.{Ran, Taken, and_run_on, end_of, noted, outcome_of, ran_on, ran_with, run_from, run_on, steps, take_fitting, take_read, take_where}
 use Rattle.wm_replay.specs.Replay.{IsRun, reads_of, start_of}
 use Rattle.wm_replay.proofs.Runs.{and_some, more, more_grows, next_event, outcome_some, steps_more}
-use Rattle.wm_sequential.specs.ModulePrograms.{IsCutRun, MakesNoCompareExchange, RunsAreReceptive, with_read}
+use Rattle.wm_sequential.specs.ModulePrograms.{AreOfOneAccess, IsCutRun, RunsAreReceptive}
+use Rattle.wm_sequential.specs.Programs.{IsLike}
 use Rattle.wm_sequential.proofs.SameAccess.{same_access}
 
 -- ---- reads of events
@@ -281,8 +282,34 @@ at-end : (xs zs : List Event) (y : Event) → slice_get ((xs ++ y ∷ []) ++ zs)
 at-end [] zs y = refl
 at-end (x ∷ xs) zs y = at-end xs zs y
 
-module _ (m : Module) (none : MakesNoCompareExchange m) (k : ℕ) (t : ThreadLog) (n : ℕ) (run : IsRun m k t) (e : Event) (at : slice_get t.events n ≡ Some e)
-    (does : IsTrue (reads e)) (only : writes e ≡ false) (value : ℕ) (fits : value < 2 ^ (8 * bytes_of e.width)) where
+-- what an access makes in place of an event that reads: one with its memory order and range that reads the value
+pub record OneAccess (e d : Event) (value : ℕ) : Type 0 where
+  pub like : IsLike e d
+  pub does : IsTrue (reads d)
+  pub read : d.read ≡ value
+
+pub one-access : (e d : Event) (value : ℕ) → AreOfOneAccess e d value → IsTrue (reads e) → OneAccess e d value
+one-access e d value one does =
+    let finds : kind_finds one.access.kind ≡ true = sym (finds-reads one.access.kind e.read) ∙ ap reads one.before ∙ does in
+    record {
+      like = record {
+        order = ap (λ (e : Event). e.order) (sym one.now) ∙ ap (λ (e : Event). e.order) one.before;
+        address = ap (λ (e : Event). e.address) (sym one.now) ∙ ap (λ (e : Event). e.address) one.before;
+        width = ap (λ (e : Event). e.width) (sym one.now) ∙ ap (λ (e : Event). e.width) one.before;
+      };
+      does = ap reads (sym one.now) ∙ finds-reads one.access.kind value ∙ finds;
+      read = ap (λ (e : Event). e.read) (sym one.now) ∙ finds-read one.access.kind value finds;
+    }
+
+-- a run that is cut after an event, where its access reads this value
+pub record ChangedRun (m : Module) (k : ℕ) (t : ThreadLog) (n : ℕ) (e : Event) (value : ℕ) : Type 0 where
+  pub made : Event
+  pub access : AreOfOneAccess e made value
+  pub cut : ThreadLog
+  pub is_cut : IsCutRun m k t cut (take n t.events ++ made ∷ [])
+
+module _ (m : Module) (k : ℕ) (t : ThreadLog) (n : ℕ) (run : IsRun m k t) (e : Event) (at : slice_get t.events n ≡ Some e)
+    (does : IsTrue (reads e)) (value : ℕ) (fits : value < 2 ^ (8 * bytes_of e.width)) where
   w : Whole m k t
   w = whole m k t run
 
@@ -313,11 +340,10 @@ module _ (m : Module) (none : MakesNoCompareExchange m) (k : ℕ) (t : ThreadLog
       let whole_list : (a.ran.events ++ event_made number op r ∷ []) ++ later.0 ≡ t.events = ap (λ es. es ++ later.0) (sym is) ∙ sym later.1 ∙ w.events in
       same_Some (event_made number op r) e (sym (at-end a.ran.events later.0 (event_made number op r)) ∙ ap (λ es. slice_get es (length a.ran.events)) whole_list ∙ ap (slice_get t.events) a.count ∙ at)
 
-  -- an access that only reads is a load
-  load-again : (op : OpFields) (r : ℕ) → access_of (step m 0 a.ran.config) ≡ Some op → op.kind ≡ Read → event_made number op r ≡ e → CutRun m k t (take n t.events ++ with_read e value ∷ [])
+  -- an access that reads may read the value
+  read-again : (op : OpFields) (r : ℕ) → access_of (step m 0 a.ran.config) ≡ Some op → kind_finds op.kind ≡ true → event_made number op r ≡ e → ChangedRun m k t n e value
   unfolding number a
-  load-again op r is load same =
-      let finds : kind_finds op.kind ≡ true = ap kind_finds load in
+  read-again op r is finds same =
       let width : op.width ≡ e.width = ap (λ (e : Event). e.width) same in
       let fitting : nat_lt value (2 ^ (8 * bytes_of op.width)) ≡ true = lt-ltb value (2 ^ (8 * bytes_of op.width)) (subst (λ w. value < 2 ^ (8 * bytes_of w)) (sym width) fits) in
       let after = access-step (step m value a.ran.config) op (same_access m value 0 a.ran.config ∙ is) in
@@ -327,28 +353,30 @@ module _ (m : Module) (none : MakesNoCompareExchange m) (k : ℕ) (t : ThreadLog
       let taken : reads_of (new ∷ []) ≡ value ∷ [] = taken-by number op value finds in
       let ran_so : steps m k w.start (reads_of a.ran.events ++ value ∷ []) (suc a.j) ≡ Some final =
       ap (and_run_on m k) (f.again (value ∷ [])) ∙ reading-known m k a.ran a.ran op value [] is finds fitting ∙ ap (ran_on k (with_reads a.ran (value ∷ [])) record { read = value; others = [] }) after.1 in
-      let new_is : new ≡ with_read e value = new-event op load r same in
-      let events : a.ran.events ++ new ∷ [] ≡ take n t.events ++ with_read e value ∷ [] = (λ i. below i ++ new_is i ∷ []) in
-      let read_so : steps m k w.start (reads_of (take n t.events ++ with_read e value ∷ [])) (suc a.j) ≡ Some final =
+      let events : a.ran.events ++ new ∷ [] ≡ take n t.events ++ new ∷ [] = ap (λ es. es ++ new ∷ []) below in
+      let read_so : steps m k w.start (reads_of (take n t.events ++ new ∷ [])) (suc a.j) ≡ Some final =
       ap (λ es. steps m k w.start (reads_of es) (suc a.j)) (sym events) ∙ ap (λ rs. steps m k w.start rs (suc a.j)) (reads_of-append a.ran.events (new ∷ []) ∙ ap (λ rs. reads_of a.ran.events ++ rs) taken) ∙ ran_so in
       let b = a.before in
-      let c : ThreadLog = record { start = t.start; end = end_of after.0; steps = suc a.j; events = take n t.events ++ with_read e value ∷ [] } in
-      record { cut = c; is_cut = record { start = refl; made = refl; fewer = omega (arith, b); run = is-run m k c w.start final w.is_start read_so refl events refl } }
-    where
-      new-event : (op : OpFields) → op.kind ≡ Read → (r : ℕ) → event_made number op r ≡ e → event_made number op value ≡ with_read e value
-      new-event op load r same =
-          let one : event_made number op value ≡ record { thread = number.thread; number = number.number; kind = event.Read; order = op.order; address = op.address; width = op.width; read = value; written = 0 } =
-          ap (λ kind. event_made number (record { kind = kind; order = op.order; address = op.address; width = op.width }) value) load in
-          let other : event_made number op r ≡ record { thread = number.thread; number = number.number; kind = event.Read; order = op.order; address = op.address; width = op.width; read = r; written = 0 } =
-          ap (λ kind. event_made number (record { kind = kind; order = op.order; address = op.address; width = op.width }) r) load in
-          one ∙ ap (λ e. with_read e value) (sym other) ∙ ap (λ e. with_read e value) same
+      let c : ThreadLog = record { start = t.start; end = end_of after.0; steps = suc a.j; events = take n t.events ++ new ∷ [] } in
+      let key : key_of e ≡ number = ap key_of (sym same) in
+      let read : e.read ≡ r = ap (λ (e : Event). e.read) (sym same) ∙ finds-read op.kind r finds in
+      record {
+        made = new;
+        access = record {
+          access = op;
+          before = ap (λ key. event_made key op e.read) key ∙ ap (event_made number op) read ∙ same;
+          now = ap (λ key. event_made key op value) key;
+        };
+        cut = c;
+        is_cut = record { start = refl; made = refl; fewer = omega (arith, b); run = is-run m k c w.start final w.is_start read_so refl events refl };
+      }
 
-  -- the run in which the event reads the value, and its thread is cut after it
-  pub changed-run : CutRun m k t (take n t.events ++ with_read e value ∷ [])
+  -- the run in which the event's access reads the value, and its thread is cut after it
+  pub changed-run : ChangedRun m k t n e value
   unfolding number a
   changed-run = by (access_of (step m 0 a.ran.config)) refl
     where
-      by : (o : Option OpFields) → access_of (step m 0 a.ran.config) ≡ o → CutRun m k t (take n t.events ++ with_read e value ∷ [])
+      by : (o : Option OpFields) → access_of (step m 0 a.ran.config) ≡ o → ChangedRun m k t n e value
       by None is =
           let s = stepped-nothing m k a.ran a.next is a.runs_on in
           let p = a.count in
@@ -357,17 +385,9 @@ module _ (m : Module) (none : MakesNoCompareExchange m) (k : ℕ) (t : ThreadLog
           absurd (omega (arith, p, q, same))
       by (Some op) is =
           let made = next_event m k a.ran op a.next (λ r. same_access m r 0 a.ran.config ∙ is) a.runs_on in
-          kinds op.kind refl made.0 (made-is op made.0 made.2)
-        where
-          kinds : (kind : OpKind) → op.kind ≡ kind → (r : ℕ) → event_made number op r ≡ e → CutRun m k t (take n t.events ++ with_read e value ∷ [])
-          kinds Read load r same = load-again op r is load same
-          kinds (Write v) store r same =
-              let h : reads e ≡ false = ap reads (sym same) ∙ ap (λ kind. kind_reads (made_kind kind r)) store in
-              absurd (false≢true (sym h ∙ does))
-          kinds (Rmw op' v) update r same =
-              let h : writes e ≡ true = ap writes (sym same) ∙ ap (λ kind. kind_writes (made_kind kind r)) update in
-              absurd (false≢true (sym only ∙ h))
-          kinds (CmpXchg expected new) exchange r same = absurd (none k t.start.name t.start.args (reads_of t.events) w.start a.j a.ran op expected new w.is_start a.ran_so is exchange)
+          let same : event_made number op made.0 ≡ e = made-is op made.0 made.2 in
+          let finds : kind_finds op.kind ≡ true = sym (finds-reads op.kind made.0) ∙ ap reads same ∙ does in
+          read-again op made.0 is finds same
 
 pub runs-are-receptive : RunsAreReceptive
-runs-are-receptive m k t n e value none run at does only fits = let c = changed-run m none k t n run e at does only value fits in (c.cut, c.is_cut)
+runs-are-receptive m k t n e value run at does fits = let c = changed-run m k t n run e at does value fits in (c.cut, c.made, c.access, c.is_cut)

@@ -1,5 +1,5 @@
 -- Data races of ECMA-262 in the executions of a module, and what follows if there are none.
-use Rattle.std.specs.Prelude.{◌≡◌, ◌≢◌, ℕ, ◌*◌, ◌^◌, ◌<◌, ◌≤◌, false, List, [], ◌∷◌, ◌++◌, Ok, Some, IsSome, IsTrue, length, map, slice_get, take}
+use Rattle.std.specs.Prelude.{◌≡◌, ℕ, ◌*◌, ◌^◌, ◌<◌, ◌≤◌, List, [], ◌∷◌, ◌++◌, Some, IsTrue, length, map, slice_get, take}
 use Rattle.wm_access.specs.AccessWidth.{bytes_of}
 use Rattle.wm_ast.specs.declared.module.Module.{Module}
 use Rattle.wm_event.specs.declared.event.Event.{Event}
@@ -7,19 +7,15 @@ use Rattle.wm_event.specs.declared.event.EventKey.{EventKey}
 use Rattle.wm_event.specs.declared.log.Start.{Start}
 use Rattle.wm_event.specs.declared.log.ThreadLog.{ThreadLog}
 use Rattle.wm_event.specs.declared.op.OpFields.{OpFields}
-use Rattle.wm_event.specs.declared.op.OpKind.TheVariants.{CmpXchg}
-use Rattle.wm_event.specs.Event.{reads, writes}
+use Rattle.wm_event.specs.Event.{key_of, reads}
 use Rattle.wm_event.specs.Execution.{Execution}
 use Rattle.wm_event.specs.Log.{event_in}
 use Rattle.wm_event.specs.LoggedRun.{LoggedRun, execution}
+use Rattle.wm_event.specs.Op.{event_made}
 use Rattle.wm_event.specs.Rules.{IsValid}
 use Rattle.wm_event.specs.Shape.{IsWellShaped, read_width}
-use Rattle.wm_machine.specs.Term.{Config}
-use Rattle.wm_machine.specs.Start.{started}
-use Rattle.wm_machine.specs.Step.{access_of, step}
-use Rattle.wm_machine.specs.Run.{Ran, steps}
 use Rattle.wm_replay.specs.Replay.{AreRuns, IsRun}
-use Rattle.wm_sequential.specs.Programs.{HasNoStandardRace}
+use Rattle.wm_sequential.specs.Programs.{HasDistinctPlaces, HasNoStandardRace}
 use Rattle.wm_sequential.specs.Sequential.{IsSequential}
 
 -- A program: a module with its initial memory, the function and arguments of each thread, and the most steps of a thread.
@@ -49,26 +45,23 @@ pub record IsExecutionOf (p : Program) (x : Execution) : Type 0 where
   pub is_log : IsLogOf p log
   pub events : (key : EventKey) → x.event_of key ≡ event_in log key
   pub writers : (key : EventKey) (e : Event) → x.event_of key ≡ Some e → length (x.writers_of key) ≡ read_width e
-  pub places : (a b : EventKey) → IsSome (x.event_of a) → IsSome (x.event_of b) → x.place_of a ≡ x.place_of b → a ≡ b
+  pub places : HasDistinctPlaces x
   pub initial : x.initial ≡ p.initial
-
--- no run of the module makes a compare-exchange. One that fails only reads, and with another value it may write
-abbrev pub MakesNoCompareExchange : Module → Type 0
-MakesNoCompareExchange m = (k : ℕ) (name args reads : List ℕ) (start : Config) (j : ℕ) (ran : Ran) (a : OpFields) (expected new : ℕ) → started m name args ≡ Ok start
-    → steps m k start reads j ≡ Some ran → access_of (step m 0 ran.config) ≡ Some a → a.kind ≢ CmpXchg expected new
 
 -- no valid execution of the program has a data race of ECMA-262
 abbrev pub IsDataRaceFree : Program → Type 0
 IsDataRaceFree p = (x : Execution) → IsExecutionOf p x → IsValid x → HasNoStandardRace x
 
--- if a program without compare-exchange is data race free, each of its valid runs is sequential, in the order of its witness
+-- if a program is data race free, each of its valid runs is sequential, in the order of its witness
 abbrev pub DataRaceFreeProgramsAreSequential : Type 0
-DataRaceFreeProgramsAreSequential = (p : Program) (run : LoggedRun) → MakesNoCompareExchange p.code → IsDataRaceFree p → IsLogOf p run.log → run.initial ≡ p.initial
-    → IsWellShaped run → IsValid (execution run) → IsSequential (execution run)
+DataRaceFreeProgramsAreSequential = (p : Program) (run : LoggedRun) → IsDataRaceFree p → IsLogOf p run.log → run.initial ≡ p.initial → IsWellShaped run → IsValid (execution run)
+    → IsSequential (execution run)
 
--- e with another value read
-abbrev pub with_read : Event → ℕ → Event
-with_read e r = record { thread = e.thread; number = e.number; kind = e.kind; order = e.order; address = e.address; width = e.width; read = r; written = e.written }
+-- one access makes e, and if it reads this value, d
+pub record AreOfOneAccess (e d : Event) (value : ℕ) : Type 0 where
+  pub access : OpFields
+  pub before : event_made (key_of e) access e.read ≡ e
+  pub now : event_made (key_of e) access value ≡ d
 
 -- a run of thread k of the same start, with these events and no more steps than t
 pub record IsCutRun (m : Module) (k : ℕ) (t cut : ThreadLog) (events : List Event) : Type 0 where
@@ -77,7 +70,8 @@ pub record IsCutRun (m : Module) (k : ℕ) (t cut : ThreadLog) (events : List Ev
   pub fewer : cut.steps ≤ t.steps
   pub run : IsRun m k cut
 
--- a run whose event n is a load may be cut after it, and the load may read any value that fits it
+-- a run whose event n reads may be cut after it, and there the same access may read any value that fits it. Its kind and what it
+-- writes follow: a compare-exchange writes exactly if it reads what it expects
 abbrev pub RunsAreReceptive : Type 0
-RunsAreReceptive = (m : Module) (k : ℕ) (t : ThreadLog) (n : ℕ) (e : Event) (value : ℕ) → MakesNoCompareExchange m → IsRun m k t → slice_get t.events n ≡ Some e
-    → IsTrue (reads e) → writes e ≡ false → value < 2 ^ (8 * bytes_of e.width) → (cut : ThreadLog) × IsCutRun m k t cut (take n t.events ++ with_read e value ∷ [])
+RunsAreReceptive = (m : Module) (k : ℕ) (t : ThreadLog) (n : ℕ) (e : Event) (value : ℕ) → IsRun m k t → slice_get t.events n ≡ Some e → IsTrue (reads e)
+    → value < 2 ^ (8 * bytes_of e.width) → (cut : ThreadLog) × (d : Event) × AreOfOneAccess e d value × IsCutRun m k t cut (take n t.events ++ d ∷ [])

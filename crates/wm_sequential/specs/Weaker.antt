@@ -1,5 +1,5 @@
 -- Weaker premises, with which runs need not be sequential.
-use Rattle.std.specs.Prelude.{◌≡◌, ◌≢◌, ◌⊎◌, ℕ, suc, ◌+◌, ◌<◌, List, [], ◌∷◌, ◌++◌, Some, IsTrue, false, length, slice_get, take}
+use Rattle.std.specs.Prelude.{◌≡◌, ◌≢◌, ◌⊎◌, ℕ, suc, ◌+◌, ◌*◌, ◌^◌, ◌<◌, List, [], ◌∷◌, ◌++◌, Some, IsTrue, false, length, slice_get, take}
 use Rattle.wm_access.specs.AccessWidth.{bytes_of}
 use Rattle.wm_event.specs.declared.event.Event.{Event}
 use Rattle.wm_event.specs.declared.event.EventKey.{EventKey}
@@ -19,7 +19,7 @@ use Rattle.wm_standard.specs.Agreement.{with_order}
 use Rattle.wm_ast.specs.declared.module.Module.{Module}
 use Rattle.wm_event.specs.declared.log.ThreadLog.{ThreadLog}
 use Rattle.wm_replay.specs.Replay.{IsRun}
-use Rattle.wm_sequential.specs.ModulePrograms.{IsCutRun, IsLogOf, MakesNoCompareExchange, Program, with_read}
+use Rattle.wm_sequential.specs.ModulePrograms.{IsCutRun, IsLogOf, AreOfOneAccess, Program}
 use Rattle.wm_sequential.specs.Programs.{StandardRace}
 use Rattle.wm_sequential.specs.Sequential.{HasNoRace, IsSequential, memory_after}
 
@@ -109,10 +109,18 @@ RacesShowAtOnce = (x : Execution) (a b : EventKey) → IsValid x → Race x a b 
 
 -- each valid run of a program is sequential, with or without data races
 abbrev pub ProgramsAreSequential : Type 0
-ProgramsAreSequential = (p : Program) (run : LoggedRun) → MakesNoCompareExchange p.code → IsLogOf p run.log → run.initial ≡ p.initial → IsWellShaped run
-    → IsValid (execution run) → IsSequential (execution run)
+ProgramsAreSequential = (p : Program) (run : LoggedRun) → IsLogOf p run.log → run.initial ≡ p.initial → IsWellShaped run → IsValid (execution run) → IsSequential (execution run)
 
--- a load may read a value that doesn't fit its width
+-- a read may have a value that doesn't fit its width
 abbrev pub AnyValueIsRead : Type 0
-AnyValueIsRead = (m : Module) (k : ℕ) (t : ThreadLog) (n : ℕ) (e : Event) (value : ℕ) → MakesNoCompareExchange m → IsRun m k t → slice_get t.events n ≡ Some e
-    → IsTrue (reads e) → writes e ≡ false → (cut : ThreadLog) × IsCutRun m k t cut (take n t.events ++ with_read e value ∷ [])
+AnyValueIsRead = (m : Module) (k : ℕ) (t : ThreadLog) (n : ℕ) (e : Event) (value : ℕ) → IsRun m k t → slice_get t.events n ≡ Some e → IsTrue (reads e)
+    → (cut : ThreadLog) × (d : Event) × AreOfOneAccess e d value × IsCutRun m k t cut (take n t.events ++ d ∷ [])
+
+-- e with another value read
+abbrev pub with_read : Event → ℕ → Event
+with_read e r = record { thread = e.thread; number = e.number; kind = e.kind; order = e.order; address = e.address; width = e.width; read = r; written = e.written }
+
+-- an event that only reads, only reads whatever the value is
+abbrev pub KindsAreKept : Type 0
+KindsAreKept = (m : Module) (k : ℕ) (t : ThreadLog) (n : ℕ) (e : Event) (value : ℕ) → IsRun m k t → slice_get t.events n ≡ Some e → IsTrue (reads e)
+    → writes e ≡ false → value < 2 ^ (8 * bytes_of e.width) → (cut : ThreadLog) × IsCutRun m k t cut (take n t.events ++ with_read e value ∷ [])

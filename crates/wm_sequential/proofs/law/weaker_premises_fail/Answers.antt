@@ -1,3 +1,4 @@
+use Rattle.wm_sequential.proofs.ReceptiveFail.{any-value-fails, kinds-fail}
 use Rattle.wm_sequential.proofs.WeakerFail.{any-order-fails, plain-races-fail, races-at-once-fail, standard-executions-fail, standard-races-fail, two-cases-fail}
 use Rattle.wm_sequential.proofs.law.weaker_premises_fail.Goals as goal
 
@@ -18,3 +19,9 @@ returns-clause-standard_executions c = standard-executions-fail
 
 pub returns-clause-at_once : goal.returns-clause-at_once
 returns-clause-at_once c = races-at-once-fail
+
+pub returns-clause-any_value : goal.returns-clause-any_value
+returns-clause-any_value c = any-value-fails
+
+pub returns-clause-kinds : goal.returns-clause-kinds
+returns-clause-kinds c = kinds-fail
