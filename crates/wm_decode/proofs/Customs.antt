@@ -12,6 +12,7 @@ use Rattle.wm_decode.specs.ReadingVectors.{byte_vector_at, filled_at, sized_at}
 use Rattle.wm_decode.specs.ReadingModule.{custom_at, customs_at, customs_in}
 use Rattle.wm_decode.proofs.Steps.{bound, met, pair_is, fits_behind, bind_same}
 use Rattle.wm_decode.proofs.Lawful.{byte_vector_takes}
+use Rattle.wm_decode.proofs.Left.{Within, rest_of, sized_short, custom_short}
 use Rattle.wm_decode.proofs.SoFar.{tail_of, front_is}
 
 -- what comes after a value with its size
@@ -30,27 +31,26 @@ sized_rest {X} item_at bytes x rest fits e =
     let t = byte_vector_takes bytes a.0.0 a.0.1 fits a.1 in
     (t.0, t.1 ∙ ap (λ (l : List ℕ). t.0 ++ l) (filled_rest item_at a.0 x rest a.2))
 
-pub customs_same : (f g : ℕ) (bytes : List ℕ) → IsBytes bytes → length bytes ≤ f → length bytes ≤ g → customs_at f bytes ≡ customs_at g bytes
+custom_leaves : (bytes : List ℕ) (y : List ℕ × List ℕ) → sized_at custom_at bytes ≡ Ok y → length y.1 ≤ length bytes
+custom_leaves bytes y e = subst (Within rest_of (length bytes)) e (sized_short custom_at custom_short bytes)
+
+pub customs_same : (f g : ℕ) (bytes : List ℕ) → length bytes ≤ f → length bytes ≤ g → customs_at f bytes ≡ customs_at g bytes
 unfolding customs_at
-customs_same zero zero bytes fits a b = refl
-customs_same zero (suc g) [] fits a b = refl
-customs_same zero (suc g) (x ∷ bytes) fits a b = absurd (omega arith)
-customs_same (suc f) zero [] fits a b = refl
-customs_same (suc f) zero (x ∷ bytes) fits a b = absurd (omega arith)
-customs_same (suc f) (suc g) [] fits a b = refl
-customs_same (suc f) (suc g) (x ∷ bytes) fits a b =
+customs_same zero zero bytes a b = refl
+customs_same zero (suc g) [] a b = refl
+customs_same zero (suc g) (x ∷ bytes) a b = absurd (omega arith)
+customs_same (suc f) zero [] a b = refl
+customs_same (suc f) zero (x ∷ bytes) a b = absurd (omega arith)
+customs_same (suc f) (suc g) [] a b = refl
+customs_same (suc f) (suc g) (x ∷ bytes) a b =
     ap (λ (o : Result (List ℕ) Stop). cond (eqb x 0) o (Ok (x ∷ bytes))) (bind_same (sized_at custom_at bytes) (λ y. customs_at f y.1) (λ y. customs_at g y.1) (λ y e.
-    let t = sized_rest custom_at bytes y.0 y.1 fits.1 e in
-    let le : length y.1 ≤ length bytes = omega (arith, ap length t.1, length-append t.0 y.1) in
-    customs_same f g y.1 (fits_behind bytes t.0 y.1 fits.1 t.1) (omega arith) (omega arith)))
+    let le = custom_leaves bytes y e in
+    customs_same f g y.1 (omega arith) (omega arith)))
 
 -- one custom section, and those after it
-pub customs_cons : (bytes : List ℕ) → IsBytes bytes → customs_in (0 ∷ bytes) ≡ (sized_at custom_at bytes >>= λ y. customs_in y.1)
+pub customs_cons : (bytes : List ℕ) → customs_in (0 ∷ bytes) ≡ (sized_at custom_at bytes >>= λ y. customs_in y.1)
 unfolding customs_at
-customs_cons bytes fits = bind_same (sized_at custom_at bytes) (λ y. customs_at (length bytes) y.1) (λ y. customs_in y.1) (λ y e.
-    let t = sized_rest custom_at bytes y.0 y.1 fits e in
-    let le : length y.1 ≤ length bytes = omega (arith, ap length t.1, length-append t.0 y.1) in
-    customs_same (length bytes) (length y.1) y.1 (fits_behind bytes t.0 y.1 fits t.1) le (omega arith))
+customs_cons bytes = bind_same (sized_at custom_at bytes) (λ y. customs_at (length bytes) y.1) (λ y. customs_in y.1) (λ y e. customs_same (length bytes) (length y.1) y.1 (custom_leaves bytes y e) (omega arith))
 
 -- no custom section
 pub customs_none : (bytes : List ℕ) → (0 < length bytes → get_or bytes 0 0 ≡ 0 → ⊥) → customs_in bytes ≡ Ok bytes
@@ -68,7 +68,7 @@ module _ (rest bytes : List ℕ) (s : Skipped rest bytes) (long : 0 < length res
   tail_fits = let fits : IsBytes (get_or rest 0 0 ∷ tail_of rest) = subst IsBytes (front_is rest long) s.fits in fits.1
 
   unfolds : customs_in rest ≡ (sized_at custom_at (tail_of rest) >>= λ y. customs_in y.1)
-  unfolds = ap customs_in (front_is rest long) ∙ ap (λ (k : ℕ). customs_in (k ∷ tail_of rest)) first ∙ customs_cons (tail_of rest) tail_fits
+  unfolds = ap customs_in (front_is rest long) ∙ ap (λ (k : ℕ). customs_in (k ∷ tail_of rest)) first ∙ customs_cons (tail_of rest)
 
   pub skips : (name after : List ℕ) → sized_at custom_at (tail_of rest) ≡ Ok (name, after) → Skipped after bytes
   skips name after e =

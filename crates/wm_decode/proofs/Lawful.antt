@@ -19,7 +19,7 @@ pub record Lawful {X : Type 0} (Item : List ℕ → X → Type 0) (item_at : Lis
 pub number_lawful : (most : ℕ) → Lawful (Unsigned most) (unsigned_at most)
 number_lawful most = record { takes = unsigned_takes most; again = λ text n rest d. unsigned_again d rest }
 
-bytes_within : (front middle back : List ℕ) → IsBytes ((front ++ middle) ++ back) → IsBytes middle
+pub bytes_within : (front middle back : List ℕ) → IsBytes ((front ++ middle) ++ back) → IsBytes middle
 bytes_within [] [] back fits = tt
 bytes_within [] (b ∷ middle) back fits = (fits.0, bytes_within [] middle back fits.1)
 bytes_within (b ∷ front) middle back fits = bytes_within front middle back fits.1

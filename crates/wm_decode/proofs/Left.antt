@@ -78,7 +78,7 @@ unsigned_short most (b ∷ bytes) =
     test rest_of n (ltb most 128) _ _ (omega arith) (
     go n _ _ (at rest_of n (unsigned_at (most / 128) bytes) (more rest_of (length bytes) n (unsigned_at (most / 128) bytes) (omega arith) (unsigned_short (most / 128) bytes))) (λ x le. le)))
 
-signed_short : (most : ℕ) → Short (signed_at most)
+pub signed_short : (most : ℕ) → Short (signed_at most)
 unfolding signed_at
 signed_short most [] = omega arith
 signed_short most (b ∷ bytes) =
@@ -109,7 +109,7 @@ byte_vector_short bytes = forget (length bytes) (byte_vector_at bytes) (own_byte
   forget n (Ok x) h = omega (arith, h, length-append x.0 x.1)
   forget n (Err s) h = h
 
-name_short : Short name_at
+pub name_short : Short name_at
 unfolding name_at
 name_short bytes = go (length bytes) _ _ (at rest_of (length bytes) (byte_vector_at bytes) (byte_vector_short bytes)) (λ text le. test rest_of (length bytes) (is_utf8 text.0) _ _ le (omega arith))
 
@@ -149,14 +149,14 @@ unfolding value_type_at
 value_type_short [] = omega arith
 value_type_short (b ∷ bytes) = let n = length (b ∷ bytes) in test rest_of n (eqb b 0x7F) _ _ (omega arith) (test rest_of n (eqb b 0x7E) _ _ (omega arith) (omega arith))
 
-block_type_short : Short block_type_at
+pub block_type_short : Short block_type_at
 unfolding block_type_at
 block_type_short [] = omega arith
 block_type_short (b ∷ bytes) =
     let n = length (b ∷ bytes) in
     test rest_of n (eqb b 0x40) _ _ (omega arith) (test rest_of n (eqb b 0x7F) _ _ (omega arith) (test rest_of n (eqb b 0x7E) _ _ (omega arith) (omega arith)))
 
-access_short : (kind : AccessKind) → Short (access_at kind)
+pub access_short : (kind : AccessKind) → Short (access_at kind)
 unfolding access_at
 access_short kind bytes = then bytes _ _ (u32_short bytes) (λ a. go (length a.1) _ _ (u32_short a.1) (λ o le. le))
 
@@ -177,11 +177,11 @@ atomic_follows bytes =
     let n = length bytes + 1 in
     go n _ _ (at rest_of n (u32_at bytes) (follows u32_at u32_short bytes)) (λ code le. access_of_short (stop (atomic_fault code.0) n) (atomic_at code.0) n code.1 (omega arith) le)
 
-zero_short : Short zero_at
+pub zero_short : Short zero_at
 zero_short [] = omega arith
 zero_short (b ∷ bytes) = test rest_of (length (b ∷ bytes)) (eqb b 0x00) _ _ (omega arith) (omega arith)
 
-table_short : Short (immediates_at opcode.BrTable)
+pub table_short : Short (immediates_at opcode.BrTable)
 unfolding immediates_at
 table_short bytes = then bytes _ _ (vector_short u32_at u32_short bytes) (λ labels. go (length labels.1) _ _ (u32_short labels.1) (λ o le. le))
 
@@ -209,17 +209,17 @@ unfolding opened_at
 opened_follows depth_left bytes = test rest_of (length bytes + 1) (eqb depth_left 0) _ _ (omega arith) (follows block_type_at block_type_short bytes)
 
 -- the byte that closes a block, and the bytes after it
-abbrev closing : Body → List ℕ
+abbrev pub closing : Body → List ℕ
 closing b = b.closer ∷ b.rest
 
-abbrev after_one : One → List ℕ
+abbrev pub after_one : One → List ℕ
 after_one one = one.rest
 
-abbrev ShortReader : Reader → Type 0
+abbrev pub ShortReader : Reader → Type 0
 ShortReader read = (depth_left next : ℕ) (bytes : List ℕ) → Within closing (length bytes) (read depth_left next bytes)
 
 module _ (read : Reader) (h : ShortReader read) where
-  closed_short : ShortReader (closed_with read)
+  pub closed_short : ShortReader (closed_with read)
   unfolding closed_with
   closed_short depth_left next bytes = step closing closing (length bytes) _ _ (h depth_left next bytes) (λ b le. test closing (length bytes) (eqb b.closer 0x0B) _ _ le (omega arith))
 
@@ -251,7 +251,7 @@ module _ (read : Reader) (h : ShortReader read) where
       test after_one n (eqb op 0x04) _ _ (if_follows depth_left next bytes) (
       step rest_of after_one n _ _ (plain_follows op bytes) (λ x le. le))))
 
-instrs_short : (fuel : ℕ) → ShortReader (instrs_at fuel)
+pub instrs_short : (fuel : ℕ) → ShortReader (instrs_at fuel)
 unfolding instrs_at
 instrs_short zero depth_left next bytes = omega arith
 instrs_short (suc fuel) depth_left next [] = omega arith

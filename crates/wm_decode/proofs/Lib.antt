@@ -24,3 +24,12 @@ pub mod Past
 pub mod FirstFaults
 pub mod Left
 pub mod LeftOfModule
+pub mod Lasting
+pub mod LastingItems
+pub mod LastingSized
+pub mod LastingFaults
+pub mod LastingBody
+pub mod LastingParts
+pub mod LastingModule
+pub mod Refuted
+pub mod MoreFollows

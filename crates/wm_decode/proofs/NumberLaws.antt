@@ -1,5 +1,5 @@
 -- What is read is spelled so, and what is spelled so is read, whatever follows.
-use Rattle.std.proofs.Common.{◌≡◌, ℕ, ◌+◌, ◌-◌, ◌*◌, ◌/◌, ◌<◌, ◌≤◌, cond, ltb, List, [], ◌∷◌, ◌++◌, length, Result, Ok, Err, refl, ap, subst, ◌∙◌, arith, inl, inr}
+use Rattle.std.proofs.Common.{◌≡◌, ℕ, zero, suc, ◌+◌, ◌-◌, ◌*◌, ◌/◌, ◌<◌, ◌≤◌, cond, ltb, List, [], ◌∷◌, ◌++◌, length, Result, Ok, Err, refl, ap, subst, ◌∙◌, arith, inl, inr}
 use Rattle.std.proofs.lemmas.Bool.{ltb-false, le-ltb, ltb-true, lt-ltb}
 use Rattle.wm_decode.specs.Numbers.{Unsigned, Signed, last, more, positive, negative, signed_more, IsBytes}
 use Rattle.wm_decode.specs.declared.fault.FaultKind.TheVariants.{BadNumber}
@@ -80,3 +80,13 @@ signed_takes most (b ∷ bytes) n rest fits e =
             (b ∷ r.0, ap (λ (t : List ℕ). b ∷ t) (r.1 ∙ ap (λ (t : List ℕ). r.0 ++ t) is.1), subst (λ (k : ℕ). Signed most (k ∷ r.0) n) b-is (subst (λ (k : ℕ). Signed most ((128 + (b - 128)) ∷ r.0) k) is.0 d))
       ]
     ]
+
+-- a number up to most has at most d bytes
+abbrev pub Digits : ℕ → ℕ → Type 0
+Digits zero most = ⊥
+Digits (suc d) most = 128 ≤ most → Digits d (most / 128)
+
+pub unsigned_length : (d : ℕ) {most n : ℕ} {text : List ℕ} → Digits d most → Unsigned most text n → length text ≤ d
+unsigned_length zero digits u = absurd digits
+unsigned_length (suc d) digits (last small fits) = omega arith
+unsigned_length (suc d) digits (more {text = text} small long u) = omega (arith, unsigned_length d (digits long) u)

@@ -51,7 +51,7 @@ next_one depth_left old new bytes rest found s long n1 n2 =
     let more = tail_of rest in
     let fits : IsBytes (op ∷ more) = subst IsBytes (front_is rest long) s.fits in
     let unfolds : instrs_in depth_left (length new) rest ≡ (instr_in depth_left (length new) op more >>= λ one. after one (instrs_in depth_left (length new + length one.nested) one.rest)) =
-    ap (instrs_in depth_left (length new)) (front_is rest long) ∙ instrs_cons depth_left (length new) op more fits.0 fits.1 ∙ rw (ne_eqb op 0x0B n1, ne_eqb op 0x05 n2) refl in
+    ap (instrs_in depth_left (length new)) (front_is rest long) ∙ instrs_cons depth_left (length new) op more ∙ rw (ne_eqb op 0x0B n1, ne_eqb op 0x05 n2) refl in
     sym (ap (with_front found s.begun) unfolds) ∙ s.same
 
 pub goes_on : (depth_left : ℕ) (old new newer : List (List Instr)) (bytes rest : List ℕ) (found : List Instr) (s : SoFar depth_left old new bytes rest found) → 0 < length rest → (get_or rest 0 0 ≡ 0x0B → ⊥) → (get_or rest 0 0 ≡ 0x05 → ⊥)
@@ -89,7 +89,7 @@ closes depth_left old new bytes rest found s long h =
     let fits : IsBytes (op ∷ more) = subst IsBytes (front_is rest long) s.fits in
     let closed : Body = record { instrs = []; nested = []; closer = op; rest = more } in
     let unfolds : instrs_in depth_left (length new) rest ≡ Ok closed =
-    ap (instrs_in depth_left (length new)) (front_is rest long) ∙ instrs_cons depth_left (length new) op more fits.0 fits.1 ∙ shut op closed h (instr_in depth_left (length new) op more >>= λ one. after one (instrs_in depth_left (length new + length one.nested) one.rest)) in
+    ap (instrs_in depth_left (length new)) (front_is rest long) ∙ instrs_cons depth_left (length new) op more ∙ shut op closed h (instr_in depth_left (length new) op more >>= λ one. after one (instrs_in depth_left (length new + length one.nested) one.rest)) in
     sym s.same ∙ ap (with_front found s.begun) unfolds ∙ simp append-nil
 
 pub is_short : (depth_left : ℕ) (old new : List (List Instr)) (bytes rest : List ℕ) (found : List Instr) → SoFar depth_left old new bytes rest found → length rest ≡ 0 → instrs_in depth_left (length old) bytes ≡ Err ended

@@ -25,34 +25,54 @@ abbrev pub left_out_or : FaultKind → ℕ → List LeftOut → FaultKind
 left_out_or other n [] = other
 left_out_or other n (r ∷ rs) = if is_among n r then Unsupported r.feature else left_out_or other n rs
 
+abbrev pub left_out_value_types : List LeftOut
+left_out_value_types = codes 0x7C 0x7D feature.Floats ∷ code 0x7B feature.Simd ∷ codes 0x6F 0x70 feature.References ∷ []
+
 abbrev pub value_type_fault : ℕ → FaultKind
-value_type_fault byte = left_out_or BadNumber byte (codes 0x7C 0x7D feature.Floats ∷ code 0x7B feature.Simd ∷ codes 0x6F 0x70 feature.References ∷ [])
+value_type_fault byte = left_out_or BadNumber byte left_out_value_types
 
 -- the bytes from 0x40 to 0x7F are those of value types; any other byte begins a type index, for a block with several
 -- values
 abbrev pub block_type_fault : ℕ → FaultKind
 block_type_fault byte = if nat_lt byte 0x40 then Unsupported feature.MultiValue else (if nat_lt byte 0x80 then value_type_fault byte else Unsupported feature.MultiValue)
 
+abbrev pub left_out_limits : List LeftOut
+left_out_limits = codes 0x00 0x01 feature.UnsharedMemory ∷ []
+
 abbrev pub limits_fault : ℕ → FaultKind
-limits_fault byte = left_out_or BadNumber byte (codes 0x00 0x01 feature.UnsharedMemory ∷ [])
+limits_fault byte = left_out_or BadNumber byte left_out_limits
+
+abbrev pub left_out_imports : List LeftOut
+left_out_imports = codes 0x00 0x01 feature.Import ∷ code 0x03 feature.Import ∷ []
 
 abbrev pub import_kind_fault : ℕ → FaultKind
-import_kind_fault byte = left_out_or BadNumber byte (codes 0x00 0x01 feature.Import ∷ code 0x03 feature.Import ∷ [])
+import_kind_fault byte = left_out_or BadNumber byte left_out_imports
+
+abbrev pub left_out_exports : List LeftOut
+left_out_exports = code 0x01 feature.Table ∷ []
 
 abbrev pub export_kind_fault : ℕ → FaultKind
-export_kind_fault byte = left_out_or BadNumber byte (code 0x01 feature.Table ∷ [])
+export_kind_fault byte = left_out_or BadNumber byte left_out_exports
+
+abbrev pub left_out_segments : List LeftOut
+left_out_segments = code 0x01 feature.PassiveData ∷ code 0x02 feature.DataMemoryIndex ∷ []
 
 abbrev pub segment_flag_fault : ℕ → FaultKind
-segment_flag_fault byte = left_out_or BadNumber byte (code 0x01 feature.PassiveData ∷ code 0x02 feature.DataMemoryIndex ∷ [])
+segment_flag_fault byte = left_out_or BadNumber byte left_out_segments
+
+abbrev pub left_out_sections : List LeftOut
+left_out_sections = code 0x08 feature.Start ∷ code 0x0D feature.Reserved ∷ []
 
 -- a known section comes too late
 abbrev pub section_fault : ℕ → FaultKind
-section_fault id = if nat_lt id 0x0E then left_out_or SectionOrder id (code 0x08 feature.Start ∷ code 0x0D feature.Reserved ∷ []) else BadNumber
+section_fault id = if nat_lt id 0x0E then left_out_or SectionOrder id left_out_sections else BadNumber
+
+abbrev pub left_out_atomics : List LeftOut
+left_out_atomics = code 0x00 feature.Notify ∷ codes 0x01 0x02 feature.Wait ∷ code 0x03 feature.Fence ∷ codes 0x4A 0x4E feature.NarrowCmpxchg ∷ []
 
 -- a code after the prefix FE, which is the opcode
 abbrev pub atomic_fault : ℕ → FaultKind
-atomic_fault n =
-    left_out_or (UnknownOpcode 0xFE) n (code 0x00 feature.Notify ∷ codes 0x01 0x02 feature.Wait ∷ code 0x03 feature.Fence ∷ codes 0x4A 0x4E feature.NarrowCmpxchg ∷ [])
+atomic_fault n = left_out_or (UnknownOpcode 0xFE) n left_out_atomics
 
 abbrev pub left_out_opcodes : List LeftOut
 left_out_opcodes =

@@ -16,3 +16,4 @@ pub mod Module
 pub mod ReadingModule
 pub mod Texts
 pub mod SectionIds
+pub mod Begins

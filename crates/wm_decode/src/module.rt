@@ -5,6 +5,7 @@ ghost use Rattle.wm_decode.specs.declared.fault.Limit.{Limit};
 ghost use Rattle.wm_decode.specs.declared.fault.FaultKind.TheVariants.{Magic, Version};
 ghost use Rattle.wm_decode.specs.Stop.{stop};
 ghost use Rattle.wm_decode.specs.Faults.{section_fault};
+ghost use Rattle.wm_decode.specs.Begins.{IsRefuted};
 ghost use Rattle.wm_decode.specs.Bounds.{profile};
 ghost use Rattle.wm_decode.specs.Implements.{Implements, Decodes, IsFaultOf, IsUnlessMemory, IsWithin, RefusedBy};
 ghost use Rattle.wm_decode.specs.Module.{items_of, magic, memory_of, version, SpellsWithin, IsPast, spells};
@@ -310,7 +311,9 @@ fn decode_whole(alloc: Global, bytes: &[u8]) -> Result<Module, DecodeFault>
 /// # Errors
 ///
 /// `At` gives the first fault from left to right, with the offset of the faulty item's first byte. It comes only if the
-/// bytes spell no module within the limits. `OutOfMemory` comes only if an allocation fails.
+/// bytes spell no module within the limits. Unless it is `Limit`, `Truncated`, or `CountMismatch` at the end of the bytes,
+/// no module of any size begins with the bytes up to the end of the faulty item. `OutOfMemory` comes only if an
+/// allocation fails.
 pub fn decode(alloc: Global, bytes: &[u8]) -> Result<Module, DecodeFault>
     // The bytes spell the module that is returned, within the limits.
     ensures found { IfOk result (λ m. SpellsWithin bytes.now m) }
@@ -325,6 +328,9 @@ pub fn decode(alloc: Global, bytes: &[u8]) -> Result<Module, DecodeFault>
     ensures fault { IfErr result (IsFaultOf (length bytes.now) (whole_at bytes.now)) }
     // The offset is in the bytes or at their end.
     ensures offset { IfErr result (IsWithin (length bytes.now)) }
+    // No module of any size begins with the bytes up to the end of the faulty item, unless the fault is a limit, or more
+    // bytes could mend it.
+    ensures refuted { IfErr result (IsRefuted bytes.now) }
 {
     decode_whole(alloc, bytes)
 }
