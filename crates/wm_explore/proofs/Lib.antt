@@ -21,5 +21,6 @@ pub mod Idling
 pub mod ShorterRuns
 pub mod Replacing
 pub mod Shortening
+pub mod Timing
 pub mod UniformLaw
 pub mod Exploring

@@ -2,6 +2,7 @@
 #![tactic(auto)]
 
 mod bound;
+mod causal;
 mod copies;
 mod exploration;
 mod idle;

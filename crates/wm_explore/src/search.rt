@@ -11,6 +11,7 @@ ghost use Rattle.wm_explore.specs.States.{count_in, extended};
 ghost use Rattle.wm_explore.specs.Turns.{EachEndsIn, MakesNext};
 
 use crate::bound::{Bound, Limits};
+use crate::causal::is_causal;
 use crate::copies::copied_start;
 use crate::exploration::{Exploration, Finished};
 use crate::idle::ends_idly;
@@ -122,7 +123,13 @@ fn finish(
         return Ok(());
     }
     match judged(alloc, &log, module.initial(), nodes)? {
-        Permission::With(witness) => progress.finished.push(Finished { log, witness })?,
+        Permission::With(witness) => {
+            if is_causal(alloc, &log, &witness)? {
+                progress.finished.push(Finished { log, witness })?;
+            } else {
+                progress.meet(Bound::Nodes);
+            }
+        }
         Permission::Never => {}
         Permission::Unknown => progress.meet(Bound::Nodes),
     }
