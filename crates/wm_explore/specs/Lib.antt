@@ -8,3 +8,4 @@ pub mod Idle
 pub mod Times
 pub mod Uniform
 pub mod Search
+pub mod Standard

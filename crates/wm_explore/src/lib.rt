@@ -15,5 +15,5 @@ mod values;
 
 pub use bound::{Bound, Limits};
 pub use exploration::{Exploration, Finished};
-pub use law::uniform_is_causal;
+pub use law::{causal_is_standard, explored_is_standard, uniform_is_causal};
 pub use search::explore;
