@@ -1,5 +1,5 @@
 -- What is valid and causal is valid by ECMA-262.
-use Rattle.std.proofs.Common.{◌≡◌, ℕ, zero, suc, ◌<◌, Some, IsSome, refl, sym, subst, arith}
+use Rattle.std.proofs.Common.{ℕ, zero, suc, ◌<◌, IsSome, refl, sym, subst, arith}
 use Rattle.wm_event.specs.Execution.{Execution}
 use Rattle.wm_event.specs.LoggedRun.{execution}
 use Rattle.wm_event.specs.declared.event.EventKey.{EventKey}
