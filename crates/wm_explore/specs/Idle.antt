@@ -9,6 +9,7 @@ use Rattle.wm_event.specs.declared.log.Start.{Start}
 use Rattle.wm_event.specs.declared.log.ThreadLog.{ThreadLog}
 use Rattle.wm_explore.specs.Executions.{IsCausal, IsExecutionOf, IsWithin, ends_of}
 use Rattle.wm_machine.specs.Run.{steps}
+use Rattle.wm_machine.specs.State.{State, config_of}
 use Rattle.wm_machine.specs.Term.{Config}
 use Rattle.wm_part.specs.Pick.{numbered}
 use Rattle.wm_replay.specs.Replay.{reads_of, start_of}
@@ -21,6 +22,10 @@ pub record IsAt (m : Module) (k : ℕ) (t : ThreadLog) (n : ℕ) (config : Confi
   pub is_start : start_of m t ≡ Ok start
   pub count : ℕ
   pub ran : steps m k start (reads_of (take n t.events)) count ≡ Some record { events = take n t.events; config = config; reads = [] }
+
+-- it has made all its events
+abbrev pub IsAfter : Module → ℕ → ThreadLog → State → Type 0
+IsAfter m k t thread = IsAt m k t (length t.events) (config_of thread)
 
 -- the events from number i on only read, and after them thread k is where it was before them
 pub record IsIdle (m : Module) (k : ℕ) (t : ThreadLog) (i : ℕ) : Type 0 where

@@ -1,7 +1,6 @@
 //! Turns in which a thread only reads and comes back to where it was.
-ghost use Rattle.std.specs.Prelude.{◌≡◌, ◌≤◌, false, true, length, IfOk, IfSome, IsTrue};
-ghost use Rattle.wm_event.specs.Event.{writes as event_writes};
-ghost use Rattle.wm_explore.specs.Idle.{HasIdleTurn, IsAt, IsIdle};
+ghost use Rattle.std.specs.Prelude.{◌≡◌, ◌≤◌, true, length, IfOk, IfSome};
+ghost use Rattle.wm_explore.specs.Idle.{HasIdleTurn, IsAfter, IsAt, IsIdle};
 ghost use Rattle.wm_machine.specs.State.{config_of};
 ghost use Rattle.wm_replay.specs.Following.{HasPlaces};
 
@@ -21,7 +20,7 @@ fn reached<'m>(
     number: usize,
 ) -> Result<Option<Thread<'m>>, AllocError>
     requires { HasPlaces number stated.now.events }
-    ensures at { IfOk result (λ found. IfSome found (λ thread. IsAt «module».now number stated.now (length stated.now.events) (config_of thread))) }
+    ensures at { IfOk result (λ found. IfSome found (IsAfter «module».now number stated.now)) }
     ensures same { IfOk result (λ found. IfSome found (λ thread. thread.module ≡ «module».now)) }
 {
     match follow(alloc, module, stated, number, MAX_STEPS)? {
