@@ -14,8 +14,7 @@ abbrev pub NoModuleBegins : List ℕ → Type 0
 NoModuleBegins front = (rest : List ℕ) (m : Module) → spells (front ++ rest) m → ⊥
 
 -- The bytes of an item with a fault of this kind: a name with its size, or a few bytes. A number has at most ten; a
--- count, a size or an index five; an opcode one, or six after the prefix FE. Of an item that runs past its section or
--- body, what is left there of a number, or the size, is enough.
+-- count, a size or an index five; an opcode one, or six after the prefix FE.
 abbrev pub IsItem : FaultKind → List ℕ → Type 0
 IsItem kind.Magic item = length item ≤ 4
 IsItem kind.Version item = length item ≤ 4
