@@ -12,6 +12,8 @@ from . import model
 from .small_threads import Function, Request
 from .witnesses import is_allowed
 
+# The most accesses of a thread that are tried. Only a loop that waits makes more.
+MOST_ACCESSES = 8
 # The thread and the number of an access; None for the initial memory.
 Name = tuple[int, int] | None
 
@@ -50,13 +52,14 @@ class Threads:
 
     def __init__(self, functions: Sequence[Function], most: int) -> None:
         self.functions, self.most = functions, most
-        self.asked: dict[tuple[int, tuple[int, ...]], Request | str] = {}
+        self.asked: dict[tuple[int, tuple[int, ...]], Request | str | None] = {}
 
-    def next_of(self, thread: int, made: Sequence[Made]) -> Request | str:
-        """What a thread asks for after these accesses, or its end."""
+    def next_of(self, thread: int, made: Sequence[Made]) -> Request | str | None:
+        """What a thread asks for after these accesses, or its end; None if it has made as many as are tried."""
         key = thread, tuple(access.read for access in made)
         if key not in self.asked:
-            self.asked[key] = self.functions[thread].next_after(key[1])
+            asked = self.functions[thread].next_after(key[1])
+            self.asked[key] = asked if isinstance(asked, str) or len(made) < MOST_ACCESSES else None
         return self.asked[key]
 
     def finished(self) -> dict[Ends, list[State]]:

@@ -232,6 +232,23 @@ class Again:
 
 
 @dataclass(frozen=True)
+class Spin:
+    """A loop that waits: a part that only reads, again as long as a local has a value."""
+
+    body: tuple[Statement, ...]
+    local: int
+    value: int
+
+    def code(self) -> bytes:
+        return LOOP + code_of(self.body) + is_equal(self.local, self.value) + BRANCH_IF + END
+
+    def run(self, values: list[int]) -> Running:
+        yield from run_all(self.body, values)
+        while values[self.local] == self.value:
+            yield from run_all(self.body, values)
+
+
+@dataclass(frozen=True)
 class Trap:
     """An `unreachable`."""
 
@@ -316,7 +333,7 @@ class Writer:
         self.counters = 0
 
     def function(self, accesses: int) -> Function:
-        """One of at most this many accesses, those of two arms and of a loop's second turn not counted."""
+        """One of at most this many accesses, those of two arms and of a loop's further turns not counted."""
         self.counters = 0
         statements = self.statements(accesses)
         return Function(statements, self.chance.random() < 0.9, self.counters)
@@ -332,7 +349,11 @@ class Writer:
     def some(self, size: int, depth: int) -> list[Statement]:
         """Statements of this many accesses."""
         way = 0.0 if depth > 1 else self.chance.random()
-        if way > 0.9:
+        if way > 0.95:
+            target = self.local()
+            place = self.place(self.chance.random() < self.atomic, self.chance.choice(self.widths))
+            return [Spin((*(self.load() for _ in range(size - 1)), Load(target, place)), target, self.small())]
+        if way > 0.87:
             self.counters += 1
             counter = LOCALS + self.counters - 1
             # Loops of loops would set a counter twice.
@@ -361,6 +382,9 @@ class Writer:
             return Place(width, atomic, address)
         step = width if self.chance.random() < 0.9 else 1
         return Place(width, atomic, address, step, self.local())
+
+    def load(self) -> Load:
+        return Load(self.local(), self.place(self.chance.random() < self.atomic, self.chance.choice(self.widths)))
 
     def access(self) -> Statement:
         kind = self.chance.choice("llllllssssssuuc")
