@@ -1,5 +1,5 @@
-"""What an installed launcher writes beside a program's answers: hints at files and starts, and descriptions of commands.
-The launcher of a clone has the same parts."""
+"""What an installed launcher writes beside a program's answers: hints at files and starts, and descriptions of
+commands. The launcher of a clone has the same parts."""
 import glob
 import os
 import re
