@@ -54,10 +54,16 @@ find_library() {
     fi
 }
 
+# The folder of the library's source.
+source_of_library() {
+    echo "$("$rustc" --print sysroot)/lib/rustlib/src/rust/library"
+}
+
 # Copies the library's source, with one change: mpsc wakes a thread by a compare-exchange of one byte, which has no
-# lowering. That byte only ever becomes true, so a swap gives the same values.
+# lowering. That byte only ever becomes true, so a swap gives the same values. Later versions have no such file.
+token=std/src/sync/mpsc/blocking.rs
 copy_source() {
-    local token=std/src/sync/mpsc/blocking.rs order=Ordering::SeqCst
+    local order=Ordering::SeqCst
     cp -rs "$1" "$2"
     [ -f "$1/$token" ] || return 0
     rm "$2/$token"
@@ -69,7 +75,7 @@ copy_source() {
 make_library() {
     local rustlib made crate source args=()
     rustlib=$("$rustc" --print sysroot)/lib/rustlib
-    source=$rustlib/src/rust/library
+    source=$(source_of_library)
     [ ! -d "$library" ] || return 0
     if [ ! -f "$source/std/src/lib.rs" ]; then
         echo "build.sh: $1: it uses what the standard library of $rustc has for one thread only (locks," \
@@ -146,7 +152,7 @@ build() {
     refuse_stripped "$source" "$room/program"
     read -ra options < <(sed -n 's,^// lower: ,,p' "$source") || true
     options=(--stacks auto --tls auto "${options[@]}" "$@")
-    if uses_sync "$source" mpsc; then
+    if uses_sync "$source" mpsc && [ -f "$(source_of_library)/$token" ]; then
         echo "$(basename "$source"): std's mpsc: its compare-exchange of one byte is a swap, with the same values"
     fi
     "$here/../../engines/lower" "$room/program/program.wasm" -o "$out" "${options[@]}" |
