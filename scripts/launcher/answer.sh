@@ -13,7 +13,8 @@ run_child() {
     trap - INT TERM HUP QUIT
 }
 
-# Ends as the program does. If it refuses, hints at the files and starts follow its answer.
+# Ends as the program does. If it refuses, hints at the files and starts follow its answer; if `explain` tells of a
+# start that the module does not have, those that there are.
 answer() {
     local status
     case $1 in
@@ -22,5 +23,6 @@ answer() {
     *) run_child "$@" ;;
     esac
     if [ "$status" -eq 2 ]; then give_hints "$@" || true; fi
+    if [ "$status:$1:$#" = 1:explain:3 ] && [ -f "$2" ] && [ -f "$3" ]; then hint_at_logged_starts "$2" "$3" || true; fi
     exit "$status"
 }

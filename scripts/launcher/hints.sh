@@ -115,17 +115,9 @@ fault_of_start() {
     esac
 }
 
-# Writes what is wrong with the first start that the module does not take, and which functions it exports. A script of
-# one turn asks the program.
-hint_at_starts() {
-    local module=$1 line kind number functions fault listed count
-    shift 2
-    line=$("$program" drive "$module" 0 "$@" 2>/dev/null </dev/null || true)
-    [[ ${line%%$'\n'*} =~ ^refused\ start\ ([A-Za-z]+)\ thread\ ([0-9]+)$ ]] || return 0
-    kind=${BASH_REMATCH[1]} number=$((BASH_REMATCH[2] + 1))
-    functions=$(exported_functions "$module")
-    fault=$(fault_of_start "$kind" "${!number}" "$functions")
-    if [ -n "$fault" ]; then say "START $number is $(quoted "${!number}"): $fault"; fi
+# Writes which functions there are.
+list_functions() {
+    local functions=$1 count listed
     if [ -z "$functions" ]; then
         say "the module exports no function"
         return
@@ -134,6 +126,28 @@ hint_at_starts() {
     listed=$(head -n "$most_listed" <<<"$functions" | paste -sd, | sed 's/,/, /g')
     if [ "$count" -gt "$most_listed" ]; then listed="$listed and $((count - most_listed)) more"; fi
     say "exported are, with the types of their arguments: $listed"
+}
+
+# Writes what is wrong with the first start that the module does not take, and which functions it exports. A script of
+# one turn asks the program.
+hint_at_starts() {
+    local module=$1 line kind number functions fault
+    shift 2
+    line=$("$program" drive "$module" 0 "$@" 2>/dev/null </dev/null || true)
+    [[ ${line%%$'\n'*} =~ ^refused\ start\ ([A-Za-z]+)\ thread\ ([0-9]+)$ ]] || return 0
+    kind=${BASH_REMATCH[1]} number=$((BASH_REMATCH[2] + 1))
+    functions=$(exported_functions "$module")
+    fault=$(fault_of_start "$kind" "${!number}" "$functions")
+    if [ -n "$fault" ]; then say "START $number is $(quoted "${!number}"): $fault"; fi
+    list_functions "$functions"
+}
+
+# Writes which functions a module exports if a log starts one that it does not have: `explain` has only that.
+hint_at_logged_starts() {
+    local line
+    line=$("$program" check "$1" "$2" 2>/dev/null </dev/null || true)
+    [[ $line =~ ^broken\ replay\ thread\ [0-9]+\ start\  ]] || return 0
+    list_functions "$(exported_functions "$1")"
 }
 
 # ---- all of them

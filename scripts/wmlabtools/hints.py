@@ -42,10 +42,15 @@ HINTS: tuple[tuple[list[str], str], ...] = (
         ["explore", "spin-lock.wasm", "9", "work:4294967296"],
         "wmlab: START 1 is 'work:4294967296': an argument is above 4294967295, and its parameter is an i32",
     ),
+    (["explain", "store-buffering.wasm", "value-not-written.json"], f"{EXPORTED} a, b"),
     (["witnesses", "lock-free-stack.wasm", "9", "pop2", "push2"], f"{EXPORTED} push2:i32, pop2"),
 )
-# Words that are refused, of which nothing more is known.
-WITHOUT: tuple[list[str], ...] = (["check", "ring.wasm", "-"], ["rules", "-"])
+# Words of which nothing more is known.
+WITHOUT: tuple[list[str], ...] = (
+    ["check", "ring.wasm", "-"],
+    ["rules", "-"],
+    ["explain", "store-buffering.wasm", "value-of-another-module.json"],
+)
 
 
 def installed(folder: str, program: str) -> str:
@@ -68,11 +73,11 @@ def check_hints(tally: harness.Tally, launcher: str, program: str) -> None:
     for words, line in HINTS:
         out, err, status = harness.run(launcher, words, cwd=EXAMPLES)
         answer = harness.run(program, words, cwd=EXAMPLES)
-        is_right = (out, status) == (answer[0], 2) and line in err.splitlines()
+        is_right = (out, status) == (answer.printed, answer.status) and status and line in err.splitlines()
         tally.check(is_right, f"a hint at {words}", (out, err, status))
     for words in WITHOUT:
         got = harness.run(launcher, words, cwd=EXAMPLES)
-        tally.check((got[1], got[2]) == ("", 2), f"no hint at {words}", got)
+        tally.check(not got.errors and got.status in (1, 2), f"no hint at {words}", got)
     with open(f"{EXAMPLES}/store-buffering.json", encoding="utf-8") as file:
         lines = file.read().replace("],", "],\n")
     for given, hint in ((lines, f"{NO_LINE}\n"), (f"{lines}\n{lines.replace(chr(10), '')}\n", "")):
