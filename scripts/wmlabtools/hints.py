@@ -99,6 +99,11 @@ def check_descriptions(tally: harness.Tally, launcher: str, program: str) -> Non
     commands = re.findall(r"^    ([a-z]+)(.*?)  +[a-z]", listed, re.MULTILINE)
     texts = {os.path.basename(path)[:-4] for path in glob.glob(f"{TOP}/scripts/help/*.txt")}
     tally.check(texts == {name for name, _ in commands}, "each command has a description", texts)
+    with open(f"{TOP}/docs/REFERENCE.md", encoding="utf-8") as file:
+        page = file.read()
+    with open(f"{TOP}/scripts/help/limits", encoding="utf-8") as file:
+        unknown = [number for number in re.findall(r"\d[\d,]*", file.read()) if number not in page]
+    tally.check(not unknown, "the limits of scripts/help are those of docs/REFERENCE.md", unknown)
     for name, words in commands:
         described, err, status = harness.run(launcher, ["help", name])
         is_right = status == 0 and not err and described.startswith(f"USAGE\n    wmlab {name}{words.rstrip()}\n")
