@@ -410,6 +410,16 @@ def one_kept_log(tally, room, cluster):
     tally.check(status == 1 and line in out, "one log is kept", (status, out, err))
 
 
+def a_log_on_several_lines(tally, room, cluster):
+    words = ["--scheduler", cluster.address, "logs", MODULE]
+    spread = ALLOWED.replace("],", "],\n")
+    for name, lines, is_told in (("spread", [spread], True), ("mixed", [spread, ALLOWED], False)):
+        write_lines(room.folder / f"{name}.jsonl", lines)
+        out, err, status = room.run(name, *words, str(room.folder / f"{name}.jsonl"))
+        line = f"no line for {MODULE} is a document: a log has to be on one line, as wmlab migrate prints it\n"
+        tally.check(status == 2 and (line in out) == is_told, "a log on several lines", (status, out, err))
+
+
 def forms_of_logs(tally, room, cluster):
     """Folders, compressed files, lines that are too long, and several parts."""
     folder = room.folder / "forms"
@@ -655,9 +665,9 @@ def main():
         without_dask(tally, room)
         without_pictures(tally, room)
         with dask_cluster(room.folder, 2) as cluster:
-            for test in (statuses, another_witness, one_kept_log, forms_of_logs, recordings, litmus_tests):
+            for test in (statuses, another_witness, one_kept_log, a_log_on_several_lines, forms_of_logs):
                 test(tally, room, cluster)
-            for test in (failing_streams, no_logs, other_folders):
+            for test in (recordings, litmus_tests, failing_streams, no_logs, other_folders):
                 test(tally, room, cluster)
     tally.end()
 

@@ -9,6 +9,7 @@ line is `N passed, N failed`.
 """
 import glob
 import os
+import shutil
 import signal
 import subprocess
 import sys
@@ -111,6 +112,21 @@ def check_modules_of_harness(room, program):
     TALLY.check(run(program, env=without, stdin=subprocess.DEVNULL)[2] == 2, "the harness without a module")
 
 
+def check_unwritable_clone():
+    """A clone that cannot be written has to be copied. Root can write everywhere, so another user asks."""
+    with tempfile.TemporaryDirectory() as room:
+        clone = f"{room}/clone"
+        os.makedirs(f"{clone}/crates/wm_library")
+        os.makedirs(f"{clone}/library")
+        shutil.copy(f"{TOP}/library/build", f"{clone}/library")
+        os.chmod(f"{clone}/crates/wm_library", 0o555)
+        os.chmod(room, 0o777)
+        got = run(f"{clone}/library/build", f"{room}/out", user=NOBODY if os.geteuid() == 0 else None)
+        TALLY.check(got[2] == 2 and "build in a copy" in got[1], "library/build in an unwritable clone", got)
+
+
+NOBODY = 65534
+
 with tempfile.TemporaryDirectory() as folder:
     # The gate builds the program again at the same time.
     built = run(f"{TOP}/library/build", folder, timeout=900)
@@ -119,4 +135,5 @@ with tempfile.TemporaryDirectory() as folder:
         check_answers(folder)
         check_usage(folder)
         check_harness(folder)
+check_unwritable_clone()
 TALLY.end()

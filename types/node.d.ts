@@ -123,6 +123,7 @@ declare module 'node:path' {
 
 declare module 'node:os' {
   export function tmpdir(): string;
+  export function homedir(): string;
   export function availableParallelism(): number;
 }
 

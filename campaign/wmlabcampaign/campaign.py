@@ -122,6 +122,8 @@ class Campaign:
         of = f" of {self.batches:,}" if self.is_cut else ", and there are more"
         before = f", {self.from_before:,} of them by an earlier run" if self.from_before else ""
         lines.append(f"batches finished: {self.finished:,}{of}{before}")
+        for module in self.table.without_documents():
+            lines.append(f"no line for {module} is a document: a log has to be on one line, as wmlab migrate prints it")
         if self.failures:
             lines.append(f"batches that failed and are not counted: {len(self.failures):,}; --resume tries them again")
         if self.kept:

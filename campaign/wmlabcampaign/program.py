@@ -16,7 +16,7 @@ from .plan import Litmus, Part, Recording, read_file
 
 TOP = Path(__file__).resolve().parents[2]
 # Beside an installed campaign, which is in share/wmlab/campaign.
-INSTALLED = TOP.parents[1] / "bin/wmlab"
+INSTALLED = TOP.parents[1] / "lib/wmlab/wmlab"
 
 
 def find_program(given: str | None) -> str:

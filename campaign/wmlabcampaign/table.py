@@ -27,6 +27,13 @@ class Table:
         is_judged = all(self.counts.values()) and self.counts
         return ALLOWED if is_judged and not self.total("refused") else REFUSED
 
+    def without_documents(self) -> Iterator[str]:
+        """The modules of which no line was a document, as if a document were on several lines."""
+        for module, counts in self.counts.items():
+            unread = sum(count for kind, count in counts.items() if kind.startswith("refused document "))
+            if counts["refused document NotJson"] and 1 < unread == sum(counts.values()):
+                yield module
+
     def lines(self) -> Iterator[str]:
         rows: list[tuple[str, ...]] = [HEAD]
         for module, counts in self.counts.items():

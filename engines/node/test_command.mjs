@@ -1,7 +1,9 @@
 /** Tests of record.mjs as a command, and of how it counts and keeps what it finds. */
 
 import { spawn } from 'node:child_process';
-import { chmodSync, cpSync, existsSync, mkdirSync, mkdtempSync, readFileSync, readdirSync, rmSync, symlinkSync, writeFileSync } from 'node:fs';
+import {
+  chmodSync, cpSync, existsSync, mkdirSync, mkdtempSync, readFileSync, readdirSync, realpathSync, rmSync, symlinkSync, writeFileSync,
+} from 'node:fs';
 import { tmpdir } from 'node:os';
 import { join } from 'node:path';
 import { setTimeout } from 'node:timers/promises';
@@ -19,8 +21,9 @@ const HERE = fileURLToPath(new URL('.', import.meta.url));
 const example = (name) => fileURLToPath(new URL(`../../examples/${name}.wasm`, import.meta.url));
 const BUFFERS = example('store-buffering');
 
-/** Runs the command in a folder. */
-const record = (folder, args, command = join(HERE, 'record.mjs')) => run(process.execPath, [command, ...args], { cwd: folder });
+/** Runs the command in a folder, in which it also looks for caches. */
+const record = (folder, args, command = join(HERE, 'record.mjs')) => (
+  run(process.execPath, [command, ...args], { cwd: folder, env: { ...process.env, XDG_CACHE_HOME: join(folder, 'caches') } }));
 
 /** A program in a folder, made of a shell script. */
 function script(folder, name, text) {
@@ -134,18 +137,22 @@ function testPlaces({ note, wmlab, folder }) {
     'without a program one line says what to run',
     none,
   );
-  mkdirSync(join(folder, 'bin'));
-  script(join(folder, 'bin'), 'wmlab', `exec '${wmlab}' "$@"`);
+  mkdirSync(join(folder, 'lib/wmlab'), { recursive: true });
+  script(join(folder, 'lib/wmlab'), 'wmlab', `exec '${wmlab}' "$@"`);
   const installed = copy();
   note(installed.status === 0, 'the installed program is found', installed);
-  rmSync(join(folder, 'bin'), { recursive: true });
+  rmSync(join(folder, 'lib'), { recursive: true });
   script(top, 'wmlab', `[ "$*" = --which ] && echo '${wmlab}'`);
   const unbuilt = copy();
   note(unbuilt.status === 2, 'a launcher without a program builds none for the recorder', unbuilt);
-  mkdirSync(join(top, '.built'));
-  script(join(top, '.built'), 'quick', 'exit 3');
-  const named = copy();
-  note(named.status === 0, 'the program that the launcher names is found', named);
+  const caches = join(folder, 'caches/wmlab/built', realpathSync(top).replaceAll('/', '%'));
+  for (const [place, shows] of [[caches, 'in the folder for caches'], [join(top, '.built'), 'in the clone']]) {
+    mkdirSync(place, { recursive: true });
+    script(place, 'quick', 'exit 3');
+    const named = copy();
+    note(named.status === 0, `the program that the launcher names is found, with a build ${shows}`, named);
+    rmSync(join(place, 'quick'));
+  }
 }
 
 /** A folder of programs has to have starts for each. */

@@ -1,8 +1,9 @@
 /** Finds `wmlab`, and asks it. A log is one question: a line for the one process of `wmlab stream`. */
 
 import { spawn, spawnSync } from 'node:child_process';
-import { accessSync, constants, statSync } from 'node:fs';
-import { resolve } from 'node:path';
+import { accessSync, constants, realpathSync, statSync } from 'node:fs';
+import { homedir } from 'node:os';
+import { join, resolve } from 'node:path';
 import { createInterface } from 'node:readline';
 import { fileURLToPath } from 'node:url';
 import { endInLog, isTired, isWithoutWitness, json, parse, withSomeWitness } from './document.mjs';
@@ -14,8 +15,14 @@ const place = (path) => fileURLToPath(new URL(path, import.meta.url));
 /** The launcher of the repository, and the programs that it may name. */
 const LAUNCHER = '../../wmlab';
 const BUILT = ['../../.built/wmlab', '../../crates/wmlab/out/wmlab', '../../.built/quick'];
+/** The same of a clone that cannot be written: they are below the folder for caches. */
+function builtInCaches() {
+  const clone = realpathSync(place('../..')).replaceAll('/', '%');
+  const folder = join(process.env.XDG_CACHE_HOME || join(homedir(), '.cache'), 'wmlab', 'built', clone);
+  return ['wmlab', 'quick'].map((name) => join(folder, name));
+}
 /** The program beside an installed recorder, which is in share/wmlab/engines/shared. */
-const INSTALLED = '../../../../bin/wmlab';
+const INSTALLED = '../../../../lib/wmlab/wmlab';
 
 function isProgram(path) {
   try {
@@ -32,7 +39,7 @@ export function findProgram(given) {
     if (!isProgram(given)) throw new UserError(`--wmlab ${given}: no program is there`);
     return resolve(given);
   }
-  if (isProgram(place(LAUNCHER)) && BUILT.map(place).some(isProgram)) {
+  if (isProgram(place(LAUNCHER)) && [...BUILT.map(place), ...builtInCaches()].some(isProgram)) {
     // A program that is older than its sources is built again here, as for any other command.
     const answer = spawnSync(place(LAUNCHER), ['--which'], { stdio: ['ignore', 'pipe', 'inherit'] });
     const path = answer.stdout.toString().trim();

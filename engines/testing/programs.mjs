@@ -35,6 +35,7 @@ export const RESULTS = {
   'c/thread-locals.wasm': (ends) => sum(ends) === 206n,
   'c/averages.wasm': ([, tenths]) => [0n, 15n, 30n, 45n].includes(tenths),
   'rust/std-mutex.wasm': isCounting,
+  'rust/channel.wasm': ([sent, digits]) => sent === 2n && digits === 12n,
   'rust/shared-list.wasm': ([made, taken]) => (made === 1n ? [0n, 2n].includes(taken) : made === 2n && taken === 1n),
   'rust/thread-locals.wasm': (ends) => ends.every((end) => end % 100n === 2n) && ends.some((end) => end === 402n),
 };

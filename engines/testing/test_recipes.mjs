@@ -1,6 +1,6 @@
 /** The recipes of examples/c and examples/rust: each program is built again and recorded, and stripped atomics are refused. */
 
-import { chmodSync, existsSync, mkdirSync, mkdtempSync, readFileSync, readdirSync, rmSync, writeFileSync } from 'node:fs';
+import { chmodSync, cpSync, existsSync, mkdirSync, mkdtempSync, readFileSync, readdirSync, rmSync, writeFileSync } from 'node:fs';
 import { tmpdir } from 'node:os';
 import { delimiter, join } from 'node:path';
 import { fileURLToPath } from 'node:url';
@@ -231,6 +231,17 @@ function testStrippedC({ note, room }) {
   note(without.status === 2 && !without.bytes && /apt-get install/.test(without.err), 'a missing C compiler is named', without);
 }
 
+/** A copy of the recipe whose folder cannot be written has std in the folder for caches, or asks for one. */
+function testStdFolder({ note, room }) {
+  const folder = join(room, 'clone', 'examples', 'rust');
+  cpSync(join(EXAMPLES, 'rust', 'build.sh'), join(folder, 'build.sh'));
+  writeFileSync(join(room, 'clone', '.built'), '');
+  const words = [join(EXAMPLES, 'rust', 'std-mutex.rs'), join(room, 'std-mutex.wasm')];
+  const made = run(join(folder, 'build.sh'), words, { env: { ...process.env, XDG_CACHE_HOME: '/dev/null' } });
+  const isAsked = /build\.sh: \/dev\/null\/wmlab\/rust-std cannot be made; .*XDG_CACHE_HOME=FOLDER/.test(made.err);
+  note(made.status === 2 && isAsked, 'a clone that cannot be written asks for a folder for std', made);
+}
+
 /** Rust without the feature `atomics`: the compiler makes atomic accesses plain ones, and nothing in the module shows it. */
 function testStrippedRust({ note, room }) {
   const compiler = join(room, 'rustc');
@@ -245,6 +256,7 @@ function testStrippedRust({ note, room }) {
   const single = build(RUST, join(EXAMPLES, 'rust', 'std-mutex.rs'), out, { RUSTC: compiler });
   const isAsked = /one thread only .*apt-get install rust-src/.test(single.err);
   note(single.status === 2 && !existsSync(out) && isAsked, 'std\'s locks without the source of std are refused', single);
+  testStdFolder({ note, room });
   const missing = build(RUST, source, out, { RUSTC: join(room, 'none') });
   note(missing.status === 2 && /apt-get install/.test(missing.err), 'a missing Rust compiler is named', missing);
 }

@@ -7,14 +7,14 @@
 # each exported function has a stack and a block of thread-local variables of its own, if it needs them (--stacks auto
 # --tls auto). The compiler is /usr/bin/rustc, or the one that RUSTC names.
 # Debian's standard library is made for one thread. For a program that needs its locks, thread_local! or its allocator,
-# std is compiled for threads, once, from Debian's rust-src.
+# std is compiled for threads, once, from Debian's rust-src. It is kept in .built of the clone, or in the folder for
+# caches (XDG_CACHE_HOME) if that cannot be written.
 # The status is 2 if a tool is missing, or if the compiler made the atomic accesses of a program plain ones; then there
 # is no module.
 set -euo pipefail
 here=$(cd "$(dirname "${BASH_SOURCE[0]}")" && pwd)
 rustc=${RUSTC:-/usr/bin/rustc}
 target=wasm32-unknown-unknown
-library=$here/../../.built/rust-library
 room=$(mktemp -d)
 trap 'rm -rf "$room"' EXIT
 
@@ -29,26 +29,62 @@ compile() {
         --remap-path-prefix "$(dirname "$source")=." --out-dir "$out" "$source"
 }
 
+# Whether a source names something of std::sync: words with | between them.
+uses_sync() {
+    tr '\n' ' ' <"$1" | grep -qE "std::sync::(\{[^}]*)?\b($2)\b"
+}
+
 # What the library has for one thread alone, by its name in the source.
 needs_threads() {
-    tr '\n' ' ' <"$1" | grep -qE \
-        'std::sync::(\{[^}]*)?\b(Mutex|RwLock|Condvar|Once|Barrier|mpsc)\b|\bthread_local!|std::thread\b'
+    uses_sync "$1" 'Mutex|RwLock|Condvar|Once|Barrier|mpsc' || grep -qE '\bthread_local!|std::thread\b' "$1"
+}
+
+# Sets `library`, the folder of std for threads by this compiler.
+find_library() {
+    local name
+    name=rust-std/$("$rustc" --version | cut -d' ' -f2)
+    library=$here/../../.built/$name
+    [ ! -d "$library" ] || return 0
+    if ! mkdir -p "${library%/*}" 2>/dev/null || [ ! -w "${library%/*}" ]; then
+        library=${XDG_CACHE_HOME:-${HOME-}/.cache}/wmlab/$name
+    fi
+    if ! mkdir -p "${library%/*}" 2>/dev/null; then
+        echo "build.sh: ${library%/*} cannot be made; name a folder for caches: XDG_CACHE_HOME=FOLDER" >&2
+        exit 2
+    fi
+}
+
+# The folder of the library's source.
+source_of_library() {
+    echo "$("$rustc" --print sysroot)/lib/rustlib/src/rust/library"
+}
+
+# Copies the library's source, with one change: mpsc wakes a thread by a compare-exchange of one byte, which has no
+# lowering. That byte only ever becomes true, so a swap gives the same values. Later versions have no such file.
+token=std/src/sync/mpsc/blocking.rs
+copy_source() {
+    local order=Ordering::SeqCst
+    cp -rs "$1" "$2"
+    [ -f "$1/$token" ] || return 0
+    rm "$2/$token"
+    sed -zE "s/\.compare_exchange\(false, true, $order, $order\)\s*\.is_ok\(\)/.swap(true, $order) == false/" \
+        "$1/$token" >"$2/$token"
 }
 
 # Compiles std for threads: the other crates of the library have no state, and are taken as Debian has them.
 make_library() {
-    local rustlib made crate version source args=()
-    version=$("$rustc" --version | cut -d' ' -f2)
+    local rustlib made crate source args=()
     rustlib=$("$rustc" --print sysroot)/lib/rustlib
-    source=$rustlib/src/rust/library/std/src/lib.rs
-    [ ! -d "$library/$version" ] || return 0
-    if [ ! -f "$source" ]; then
+    source=$(source_of_library)
+    [ ! -d "$library" ] || return 0
+    if [ ! -f "$source/std/src/lib.rs" ]; then
         echo "build.sh: $1: it uses what the standard library of $rustc has for one thread only (locks," \
             "thread_local!, threads or the allocator); with its source std is compiled for threads:" \
             "apt-get install rust-src" >&2
         exit 2
     fi
     echo "build.sh: compiling std for threads, once" >&2
+    copy_source "$source" "$room/source"
     made=$room/library/lib/rustlib/$target/lib
     mkdir -p "$made"
     for crate in "$rustlib/$target"/lib/*.rlib; do
@@ -64,18 +100,18 @@ make_library() {
     RUSTC_BOOTSTRAP=1 STD_ENV_ARCH=wasm32 "$rustc" --crate-name std --edition 2021 --crate-type rlib \
         --target "$target" -O -C embed-bitcode=yes -C panic=abort -C codegen-units=1 -C target-cpu=mvp \
         -C target-feature=+atomics,+bulk-memory,+mutable-globals -C metadata=wmlab --cap-lints allow \
-        -Z force-unstable-if-unmarked --cfg backtrace_in_libstd --remap-path-prefix "$rustlib/src/rust=." \
-        -L "$made" "${args[@]}" --out-dir "$made" --sysroot "$room/none" "$source"
-    mkdir -p "$library"
-    mv -T "$room/library" "$library/$version" 2>/dev/null || [ -d "$library/$version" ]
+        -Z force-unstable-if-unmarked --cfg backtrace_in_libstd --remap-path-prefix "$room/source=./library" \
+        -L "$made" "${args[@]}" --out-dir "$made" --sysroot "$room/none" "$room/source/std/src/lib.rs"
+    mv -T "$room/library" "$library" 2>/dev/null || [ -d "$library" ]
 }
 
 # With std for threads the linker makes the memory shared. It refuses objects without atomics, which the rest of the
 # library may have: they have no accesses to shared variables.
 compile_for_threads() {
+    find_library
     make_library "$1"
     RUSTC_BOOTSTRAP=1 compile "$1" "$2" -C target-feature=+atomics,+bulk-memory,+mutable-globals \
-        --sysroot "$library/$("$rustc" --version | cut -d' ' -f2)" \
+        --sysroot "$library" \
         -C link-arg=--no-check-features -C link-arg=--max-memory=1048576
 }
 
@@ -116,6 +152,9 @@ build() {
     refuse_stripped "$source" "$room/program"
     read -ra options < <(sed -n 's,^// lower: ,,p' "$source") || true
     options=(--stacks auto --tls auto "${options[@]}" "$@")
+    if uses_sync "$source" mpsc && [ -f "$(source_of_library)/$token" ]; then
+        echo "$(basename "$source"): std's mpsc: its compare-exchange of one byte is a swap, with the same values"
+    fi
     "$here/../../engines/lower" "$room/program/program.wasm" -o "$out" "${options[@]}" |
         sed "s,^,$(basename "$source"): ,"
 }

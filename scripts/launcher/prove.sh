@@ -88,6 +88,7 @@ prove_crates() {
 prove() {
     local made="$top/crates/wmlab/out/wmlab" log="$built/prove.log"
     command -v rt >/dev/null || { say "proving needs $toolchain, which is not in PATH"; exit 3; }
+    [ -w "$top/crates" ] || { say "$top cannot be written, and proving writes into it: prove in a copy"; exit 3; }
     mkdir -p "$built"
     say "proving every crate; this takes most of an hour, and can be interrupted and resumed; the log is $log"
     say "the first crate can take minutes: some kits read all sources first"

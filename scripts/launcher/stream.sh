@@ -1,8 +1,8 @@
-# Counts of the answers of `stream`, for people: on standard error if that is a terminal.
+# The command `stream`: its answers go on as they come, beside a count of them for people.
 # shellcheck shell=bash disable=SC2154 # the launcher sets `program`
 
-# Passes lines on as they come, and writes how many there are of each verdict: each second if `shows` is set, and at
-# the end. `srand` tells the time in seconds.
+# Counts the answers of each verdict, and ends with a hint if no line was a document and the first was no JSON. On a
+# terminal it shows the counts: each second if `shows` is `moving`, and at the end. `srand` tells the time in seconds.
 count_answers() {
     awk -v shows="$1" '
         function counts() {
@@ -11,10 +11,10 @@ count_answers() {
         }
         BEGIN { srand(); shown = srand() }
         {
-            print
-            fflush()
             of[$1]++
-            if (shows) {
+            if ($0 !~ /^refused document /) read++
+            if (NR == 1) first = $0
+            if (shows == "moving") {
                 srand()
                 now = srand()
                 if (now > shown) {
@@ -23,16 +23,27 @@ count_answers() {
                 }
             }
         }
-        END { printf "%s%s\n", shows ? "\r" : "", counts() >"/dev/stderr" }
+        END {
+            if (shows != "") printf "%s%s\n", shows == "moving" ? "\r" : "", counts() >"/dev/stderr"
+            if (NR > 1 && !read && first == "refused document NotJson") {
+                printf "wmlab: no line is a document. A log has to be on one line: wmlab migrate DOC\n" >"/dev/stderr"
+            }
+        }
     '
 }
 
-# Runs the program with the counts beside it, and ends with its status, or with 3 if its answers could not be passed on.
-# The counts move only if the answers go elsewhere.
-answer_with_counts() {
-    local statuses=(0 0) shows=yes
-    if [ -t 1 ]; then shows=; fi
-    "$program" "$@" | count_answers "$shows" || statuses=("${PIPESTATUS[@]}")
-    if [ "${statuses[1]}" -ne 0 ]; then exit 3; fi
-    exit "${statuses[0]}"
+# Runs the program as a child with its answers copied to the count, and ends with its status, or with 3 if its answers
+# could not be passed on. `tee` passes each on at once, which awk may not.
+answer_stream() {
+    local shows="" copy answers counter copier
+    if [ -t 2 ]; then shows=moving; fi
+    if [ -t 2 ] && [ -t 1 ]; then shows=end; fi
+    exec {copy}> >(count_answers "$shows" >/dev/null)
+    counter=$!
+    exec {answers}> >(exec tee --output-error=exit /dev/fd/"$copy" 2>/dev/null)
+    copier=$!
+    run_child "$@" <&0 >&"$answers" {answers}>&- {copy}>&-
+    exec {answers}>&- {copy}>&-
+    if ! wait "$copier" && [ "$status" -ne 3 ]; then end_unwritten; fi
+    wait "$counter" || true
 }

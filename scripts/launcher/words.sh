@@ -4,11 +4,12 @@
 # The words of a command as the help text has them, `wmlab COMMAND WORD..`, without `wmlab`; nothing if it has none.
 usage_of() {
     local line
+    [[ $1 =~ ^[a-z]+$ ]] || return 0
     while read -r line; do
         line=${line#./}
         line=${line#wmlab }
         line=${line%%  *}
-        if [[ $line =~ ^$1(\ \[[A-Z]+\])?(\ [A-Z]+(\.\.\.?)?)+(\ \[[A-Z]+\])?$ ]]; then
+        if [[ $line =~ ^$1(\ \[[A-Z]+\])?(\ [A-Z]+(\.\.\.?)?)*(\ \[[A-Z]+\])?$ ]]; then
             printf '%s\n' "$line"
             return
         fi
@@ -33,13 +34,20 @@ usage_for() {
 }
 
 # Refuses the command line as the program does, and says why.
-refuse_command() {
+refuse_words() {
     print "refused command words"
-    case $1 in
-    -?*) say "the word '$1' begins with a hyphen, as none of a command does; a file named -x is written ./-x" ;;
-    *) say "there is no command '$1'; \`wmlab help\` lists them" ;;
-    esac
+    say "$1"
     exit 2
+}
+
+# The same for a first word that is no command.
+refuse_command() {
+    case $1 in
+    -?*)
+        refuse_words "the word '$1' begins with a hyphen, as none of a command does; a file named -x is written ./-x"
+        ;;
+    *) refuse_words "there is no command '$1'; \`wmlab help\` lists them" ;;
+    esac
 }
 
 # Refuses an unknown command, and a file that cannot be read, before a program is built. All other words are left to the
@@ -47,7 +55,6 @@ refuse_command() {
 look_at_words() {
     [ -f "$help" ] || return 0
     local LC_ALL=C usage count word
-    [[ ${1-} =~ ^[a-z]+$ ]] || refuse_command "${1-}"
     usage=$(usage_for "$1" $# "${!#}")
     [ -n "$usage" ] || refuse_command "$1"
     count=$(wc -w <<<"${usage%%..*}")

@@ -15,6 +15,8 @@ CHARACTER, SMALL = 7.9, 6.7
 LINE, MARGIN, PADDING = 17.0, 20.0, 10.0
 LABEL_HEIGHT = 15.0
 GAP_X, GAP_Y = 110.0, 44.0
+# How far a label is from other arrows, if there is such a place.
+APART = 10.0
 # How far apart the columns and rows are moved for labels without a place, and how often.
 WIDER, MOST_TRIES = 1.25, 12
 CLEARANCE = 2.0
@@ -111,6 +113,14 @@ class Layout:
     @property
     def bottom(self) -> float:
         return max([box.bottom for box in self.boxes] + [y for route in self.routes for _, y in route])
+
+    def is_apart(self, box: Box, number: int) -> bool:
+        """Whether the label of an arrow is so far from other arrows and labels that it can't be taken for theirs."""
+        wide = box.grown(APART)
+        others = [route for place, route in enumerate(self.routes) if place != number]
+        labels = [label for place, label in enumerate(self.labels) if label and place != number]
+        is_alone = not any(wide.is_on(*line) for route in others for line in itertools.pairwise(route))
+        return is_alone and not any(map(wide.meets, labels))
 
     def faults(self) -> list[str]:
         """Labels that are on an edge, a node or a label, and edges that are on nodes of others."""
@@ -221,14 +231,15 @@ class Columns:
         """Places the labels. Answers whether each has a place."""
         lines = [line for route in self.layout.routes for line in itertools.pairwise(route)]
         taken = [*self.layout.nodes.values(), *self.layout.titles]
-        for arrow, route in zip(arrows, self.layout.routes):
+        for number, (arrow, route) in enumerate(zip(arrows, self.layout.routes)):
             if not arrow.label:
                 self.layout.labels.append(None)
                 continue
-            box = next((box for box in places(route, width_of(arrow.label)) if is_free(box, lines, taken)), None)
-            self.layout.labels.append(box)
-            if box is None:
+            free = [box for box in places(route, width_of(arrow.label)) if is_free(box, lines, taken)]
+            if not free:
                 return False
+            box = next((box for box in free if self.layout.is_apart(box, number)), free[0])
+            self.layout.labels.append(box)
             taken.append(box)
         return True
 
