@@ -4,11 +4,11 @@
     scripts/random_explore.py [--wmlab PATH] [--count N] [--seed N] [--kept FOLDER]        200 modules, seed 1
 
 A module has two or three threads of a few accesses, plain and atomic, of 1 to 8 bytes, with updates, compare-exchanges,
-branches on what was read, loops of at most two turns, and loops that wait by loads. The plain program (`wmlabtools/causal.py`) makes the accesses
-one after the other in each way, each byte read from any that was left there, and asks the memory model
-(`wmlabtools/model.py`) for an order. Each outcome that it finds has to be listed; of half of the modules, within a few
-events of a thread. Each document of `witnesses` has to have the outcome of its line, to be allowed by the model and by
-`wmlab check`, to be causal, and to be a run of the threads.
+branches on what was read, loops of at most two turns, and loops that wait by loads. The plain program
+(`wmlabtools/causal.py`) makes the accesses one after the other in each way, each byte read from any that was left
+there, and asks the memory model (`wmlabtools/model.py`) for an order. Each outcome that it finds has to be listed; of
+half of the modules, within a few events of a thread. Each document of `witnesses` has to have the outcome of its line,
+to be allowed by the model and by `wmlab check`, to be causal, and to be a run of the threads.
 
 A module that shows a difference is kept in a folder. The last line is `N passed, N failed`.
 """
@@ -128,7 +128,7 @@ def expect_run(function: Function, logged: Sequence[Any], events: Sequence[model
 
 
 def is_causal(execution: model.Execution) -> bool:
-    """Whether the events have an order in which each comes after those before it in its thread and after its writers."""
+    """Whether the events have an order in which each comes after its writers and those before it in its thread."""
     left = list(execution.events)
     while left:
         waiting = set(left)

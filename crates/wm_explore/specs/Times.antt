@@ -1,6 +1,8 @@
 -- Tables of times by which an execution is shown to be causal.
 use Rattle.std.specs.Prelude.{◌≡◌, ℕ, ◌-◌, ◌<◌, List, Some, option_and_then, slice_get, unwrap_or}
 use Rattle.wm_event.specs.Event.{key_of}
+use Rattle.wm_event.specs.Log.{HasKeys}
+use Rattle.wm_event.specs.LoggedRun.{execution}
 use Rattle.wm_event.specs.Witness.{writers_in}
 use Rattle.wm_event.specs.declared.event.Event.{Event}
 use Rattle.wm_event.specs.declared.event.EventId.{EventId}
@@ -8,6 +10,8 @@ use Rattle.wm_event.specs.declared.event.EventId.TheVariants.{At}
 use Rattle.wm_event.specs.declared.event.EventKey.{EventKey}
 use Rattle.wm_event.specs.declared.log.ThreadLog.{ThreadLog}
 use Rattle.wm_event.specs.declared.witness.Witness.{Witness}
+use Rattle.wm_explore.specs.Executions.{IsCausal}
+use Rattle.wm_explore.specs.Judging.{run_with}
 
 -- the time of an event in a table with a list for each thread; 0 if the table has none
 abbrev pub time_in : List (List ℕ) → EventKey → ℕ
@@ -28,3 +32,7 @@ pub record KeepTimes (times : List (List ℕ)) (witness : Witness) (events : Lis
 
 abbrev pub AllKeepTimes : List (List ℕ) → Witness → List ThreadLog → Type 0
 AllKeepTimes times witness log = (k : ℕ) (t : ThreadLog) → slice_get log k ≡ Some t → KeepTimes times witness t.events
+
+-- with this witness the execution of the log is causal, whatever the initial memory
+abbrev pub IsCausalWith : List ThreadLog → Witness → Type 0
+IsCausalWith log witness = HasKeys log → (initial : List ℕ) → IsCausal (execution (run_with log initial witness))

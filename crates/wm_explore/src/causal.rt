@@ -1,10 +1,6 @@
 //! Whether an execution is causal.
-ghost use Rattle.std.specs.Prelude.{◌≡◌, ◌<◌, true, ℕ, List as ListOf, length, IfOk};
-ghost use Rattle.wm_event.specs.Log.{HasKeys};
-ghost use Rattle.wm_event.specs.LoggedRun.{execution};
-ghost use Rattle.wm_explore.specs.Executions.{IsCausal};
-ghost use Rattle.wm_explore.specs.Judging.{run_with};
-ghost use Rattle.wm_explore.specs.Times.{AllKeepTimes, AreEarlier, IsLater, KeepTimes, time_in};
+ghost use Rattle.std.specs.Prelude.{◌≡◌, ◌<◌, true, length, IfOk};
+ghost use Rattle.wm_explore.specs.Times.{AllKeepTimes, AreEarlier, IsCausalWith, IsLater, KeepTimes, time_in};
 
 use std::alloc::{AllocError, Global};
 use wm_event::{Event, EventId, EventKey, Log, ThreadLog, Witness};
@@ -143,7 +139,7 @@ fn guessed_times(
 /// Whether the execution of a log with a witness is causal. `true` is checked; `false` comes if no order was found in which
 /// each event comes after its writers.
 pub(crate) fn is_causal(alloc: Global, log: &Log, witness: &Witness) -> Result<bool, AllocError>
-    ensures { IfOk result (λ causal. causal ≡ true → HasKeys log.now → (initial : ListOf ℕ) → IsCausal (execution (run_with log.now initial witness.now))) }
+    ensures { IfOk result (λ causal. causal ≡ true → IsCausalWith log.now witness.now) }
 {
     let times = guessed_times(alloc, log, witness)?;
     Ok(all_keep_times(times.as_slice(), witness, log.threads()))
