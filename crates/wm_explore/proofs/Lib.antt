@@ -21,7 +21,6 @@ pub mod Idling
 pub mod ShorterRuns
 pub mod Replacing
 pub mod Shortening
-pub mod Timing
 pub mod StandardLaw
 pub mod UniformLaw
 pub mod Exploring

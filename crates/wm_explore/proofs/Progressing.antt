@@ -12,8 +12,8 @@ use Rattle.wm_event.specs.Shape.{IsWellShaped}
 use Rattle.wm_replay.specs.Complete.{IsCompletion, IsWithoutRun}
 use Rattle.wm_replay.specs.declared.answer.ReplayAnswer.{ReplayAnswer}
 use Rattle.wm_explore.specs.Bounds.{IsExcused}
-use Rattle.wm_explore.specs.Executions.{IsCausal, IsExecutionOf, IsFinished, ends_of, starts_of}
-use Rattle.wm_explore.specs.Judging.{IsAllowedWith, run_with}
+use Rattle.wm_explore.specs.Executions.{IsExecutionOf, IsFinished, ends_of, starts_of}
+use Rattle.wm_explore.specs.Judging.{IsAllowedWith}
 use Rattle.wm_explore.specs.Search.{AreApart, Covers, Extends, IsFound, IsProgress, Lists, Takes}
 use Rattle.wm_explore.specs.Search.Covers.{left, listed, excused}
 use Rattle.wm_explore.specs.States.{GoesOn, IsState}
@@ -94,24 +94,21 @@ module _ (m : Module) (starts : List Start) (events : ℕ) (s : State) where
             (allowed_too x.log completed (same_events_too m starts x s is on ends completed completion) x.initial x.witness (is.shaped, is.valid)))))
 
         -- with this witness it is
-        module _ (w : Witness) (allowed : IsAllowedWith completed initial w) (causal : (i : List ℕ) → IsCausal (execution (run_with completed i w))) (finished : IsFinished completed) (new : Lists p.finished.items (ends_of completed) → ⊥) (q : Progress) (same_work : q.work.items ≡ p.work.items)
+        module _ (w : Witness) (allowed : IsAllowedWith completed initial w) (finished : IsFinished completed) (new : Lists p.finished.items (ends_of completed) → ⊥) (q : Progress) (same_work : q.work.items ≡ p.work.items)
             (pushed : q.finished.items ≡ p.finished.items ++ record { log = completed; witness = w } ∷ []) (same_met : q.met ≡ p.met) where
           abbrev one : Finished
           one = record { log = completed; witness = w }
 
           is_found : IsFound m starts one
           is_found other is_other =
-              let same : initial ≡ other = one_init m initial other is_init is_other in (
-                record {
-                  initial = is_other;
-                  started = started_too;
-                  runs = completion.are_runs;
-                  finished = finished;
-                  shaped = subst (λ i. IsWellShaped (run_with completed i w)) same allowed.0;
-                  valid = subst (λ i. IsValid (execution (run_with completed i w))) same allowed.1;
-                },
-                causal other,
-              )
+              let same : initial ≡ other = one_init m initial other is_init is_other in record {
+                initial = is_other;
+                started = started_too;
+                runs = completion.are_runs;
+                finished = finished;
+                shaped = subst (λ i. IsWellShaped (record { log = completed; witness = w; initial = i })) same allowed.0;
+                valid = subst (λ i. IsValid (execution (record { log = completed; witness = w; initial = i }))) same allowed.1;
+              }
 
           apart : AreApart (p.finished.items ++ one ∷ [])
           apart i j f g lt at_f at_g = by (at_pushed p.finished.items one i f at_f) (at_pushed p.finished.items one j g at_g)

@@ -5,7 +5,6 @@ pub mod Bounds
 pub mod Turns
 pub mod Judging
 pub mod Idle
-pub mod Times
 pub mod Uniform
 pub mod Search
 pub mod Standard

@@ -24,12 +24,9 @@ use Rattle.wm_valid.specs.Valid.{IsInit}
 abbrev pub Lists : List Finished → List End → Type 0
 Lists finished ends = (i : ℕ) × (f : Finished) × (slice_get finished i ≡ Some f) × (ends_of f.log ≡ ends)
 
-abbrev pub run_of : Finished → List ℕ → LoggedRun
-run_of f initial = record { log = f.log; witness = f.witness; initial = initial }
-
--- it is a valid and causal execution of the module over its initial memory in which each thread has ended
+-- it is a valid execution of the module over its initial memory in which each thread has ended
 abbrev pub IsFound : Module → List Start → Finished → Type 0
-IsFound m starts f = (initial : List ℕ) → IsInit m initial → IsExecutionOf m starts (run_of f initial) × IsCausal (execution (run_of f initial))
+IsFound m starts f = (initial : List ℕ) → IsInit m initial → IsExecutionOf m starts (record { log = f.log; witness = f.witness; initial = initial })
 
 -- no two have the same ends
 abbrev pub AreApart : List Finished → Type 0
@@ -82,7 +79,7 @@ pub record IsFirstState (starts : List Start) (s : State) : Type 0 where
 
 -- ---- an exploration
 
--- each execution that was found is valid and causal; no two have the same ends; without a bound each outcome was found; with a bound of a
+-- each execution that was found is valid; no two have the same ends; without a bound each outcome was found; with a bound of a
 -- thread each outcome within the bounds
 pub record Explores (m : Module) (starts : List Start) (events : ℕ) (e : Exploration) : Type 0 where
   pub found : All (IsFound m starts) e.finished

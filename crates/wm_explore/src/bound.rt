@@ -19,7 +19,7 @@ pub struct Limits {
 pub enum Bound {
     /// As many graphs were extended as may be.
     Graphs,
-    /// A search for a witness of a finished execution gave up, or found only one that is not causal.
+    /// A search for a witness of a finished execution gave up.
     Nodes,
     /// This thread made [`MAX_STEPS`](wm_event::MAX_STEPS) steps.
     Steps(usize),

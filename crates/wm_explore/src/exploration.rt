@@ -8,7 +8,7 @@ use wm_list::List;
 pub struct Finished {
     /// What the threads did, with their ends.
     pub log: Log,
-    /// Writers and an order with which the memory rules allow it. Program order and reads-from have no cycle.
+    /// Writers and an order with which the memory rules allow it.
     pub witness: Witness,
 }
 

@@ -2,7 +2,6 @@
 #![tactic(auto)]
 
 mod bound;
-mod causal;
 mod copies;
 mod exploration;
 mod idle;
@@ -15,5 +14,5 @@ mod values;
 
 pub use bound::{Bound, Limits};
 pub use exploration::{Exploration, Finished};
-pub use law::{causal_is_standard, explored_is_standard, uniform_is_causal};
+pub use law::{causal_is_standard, uniform_is_causal};
 pub use search::explore;

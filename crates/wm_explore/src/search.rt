@@ -11,7 +11,6 @@ ghost use Rattle.wm_explore.specs.States.{count_in, extended};
 ghost use Rattle.wm_explore.specs.Turns.{EachEndsIn, MakesNext};
 
 use crate::bound::{Bound, Limits};
-use crate::causal::is_causal;
 use crate::copies::copied_start;
 use crate::exploration::{Exploration, Finished};
 use crate::idle::ends_idly;
@@ -123,13 +122,7 @@ fn finish(
         return Ok(());
     }
     match judged(alloc, &log, module.initial(), nodes)? {
-        Permission::With(witness) => {
-            if is_causal(alloc, &log, &witness)? {
-                progress.finished.push(Finished { log, witness })?;
-            } else {
-                progress.meet(Bound::Nodes);
-            }
-        }
+        Permission::With(witness) => progress.finished.push(Finished { log, witness })?,
         Permission::Never => {}
         Permission::Unknown => progress.meet(Bound::Nodes),
     }

@@ -24,19 +24,12 @@ returns-then-is_listed c events starts fine progress =
 
 pub returns-in_ok-push-in-With : goal.returns-in_ok-push-in-With
 returns-in_ok-push-in-With c events starts fine progress =
-    let allowed = subst (IsPermission c.in-Completed.log c.initial.result.now) c.in-With.is c.in_ok-witness.ensures in
-    let causal = c.in_ok-is_causal-in-With.ensures c.if-branch.true allowed.0.keys in
     found c.args.module.now starts events c.args.state.now fine c.args.progress.now progress c.requires.ends c.in-Completed.log
     (subst (CompletesLog c.args.module.now c.args.state.now.log) c.in-Completed.is c.in_ok-log.ensures)
-    c.initial.result.now c.initial.ensures c.in-With.witness allowed causal
+    c.initial.result.now c.initial.ensures c.in-With.witness (subst (IsPermission c.in-Completed.log c.initial.result.now) c.in-With.is c.in_ok-witness.ensures)
     (subst IsFinished c.threads.ensures.value (c.if-not-is_finished.ensures.finished refl))
     (λ lists. c.if-is_listed.ensures.not refl (subst (λ fs. Lists fs (ends_of c.in-Completed.log)) (sym c.as_slice.ensures.value) lists))
     (record { work = c.args.progress.now.work; finished = c.push.new.self; met = c.args.progress.now.met }) refl c.in_ok-push-in-With.ensures.items refl
-
-pub returns-else-branch : goal.returns-else-branch
-returns-else-branch c events starts fine progress =
-    bounded c.args.module.now starts events c.args.state.now c.args.progress.now c.meet.new.self progress (ap (λ v. v.items) c.meet.ensures.work) (ap (λ v. v.items) c.meet.ensures.finished)
-    (λ log. c.meet.ensures.kept events log) (λ x is on. c.meet.ensures.met events x.log tt)
 
 pub returns-in-Never : goal.returns-in-Never
 returns-in-Never c events starts fine progress =
@@ -46,5 +39,5 @@ returns-in-Never c events starts fine progress =
 
 pub returns-in-Unknown : goal.returns-in-Unknown
 returns-in-Unknown c events starts fine progress =
-    bounded c.args.module.now starts events c.args.state.now c.args.progress.now c.meet-in-Unknown.new.self progress (ap (λ v. v.items) c.meet-in-Unknown.ensures.work) (ap (λ v. v.items) c.meet-in-Unknown.ensures.finished)
-    (λ log. c.meet-in-Unknown.ensures.kept events log) (λ x is on. c.meet-in-Unknown.ensures.met events x.log tt)
+    bounded c.args.module.now starts events c.args.state.now c.args.progress.now c.meet.new.self progress (ap (λ v. v.items) c.meet.ensures.work) (ap (λ v. v.items) c.meet.ensures.finished)
+    (λ log. c.meet.ensures.kept events log) (λ x is on. c.meet.ensures.met events x.log tt)
