@@ -91,7 +91,8 @@ make_library() {
         case $(basename "$crate") in
         libstd-* | libtest-* | libproc_macro-*) continue ;;
         esac
-        ln -s "$crate" "$made"
+        # A copy: rt refuses a folder with links.
+        cp -L "$crate" "$made"
     done
     for crate in alloc cfg_if compiler_builtins core dlmalloc hashbrown libc panic_abort rustc_demangle std_detect \
         unwind; do
