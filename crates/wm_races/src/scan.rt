@@ -16,8 +16,20 @@ use std::thread::Threads;
 use wm_hb::HappensBefore;
 use wm_list::List;
 
-/// How many events are processed at a time: the pairs of more of them would take too much memory.
-const BLOCK: usize = 512;
+/// How many events are processed at a time at least.
+const LEAST_BLOCK: usize = 512;
+
+/// How many groups there is to be room for. The events that are processed at a time have no more, unless they are as few as
+/// can be: to start the threads takes as long as the races of some hundred events.
+const ROOM: usize = 1_048_576;
+
+/// How many events are processed at a time.
+fn block_size(table: &ClassTable) -> usize
+    ensures { 0 < result }
+{
+    let most = table.most_groups().saturating_mul(8).max(1);
+    LEAST_BLOCK.max(ROOM / most)
+}
 
 /// Adds the races of the events from one place of the order up to another.
 fn add_block(
@@ -67,10 +79,11 @@ fn report_races(
     let candidate = before.candidate();
     let _log = candidate.log();
     let events = candidate.witness().order.len();
+    let block = block_size(table);
     let mut report = Report::new(alloc);
     let mut start = 0usize;
     while start < events {
-        let count = BLOCK.min(events - start);
+        let count = block.min(events - start);
         add_block(
             rt,
             alloc,
