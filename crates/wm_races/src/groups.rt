@@ -123,7 +123,7 @@ pub(crate) fn groups_of(
             Some(classes) => class_groups(alloc, before, event, place, address, classes)?,
             None => pair_groups(alloc, before, begins, event, place, address)?,
         };
-        append(&mut groups, found.as_slice())?;
+        groups = joined(groups, found)?;
     }
     Ok(groups)
 }

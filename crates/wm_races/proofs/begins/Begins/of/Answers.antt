@@ -1,9 +1,7 @@
-use Rattle.std.proofs.Common.{◌≡◌, ◌<◌, ◌≤◌, IsSome, IsTrue, Some, get_or, length, slice_get, sym, ap, subst, ◌∙◌, ⊎_elim, arith, rules}
+use Rattle.std.proofs.Common.{◌≡◌, ◌<◌, ◌≤◌, IsSome, Some, get_or, length, slice_get, sym, ap, subst, ◌∙◌, ⊎_elim, arith, rules}
 use Rattle.std.proofs.lemmas.Bool.{cases_lt}
 use Rattle.std.proofs.lemmas.Option.{get_or_from_slice_get, slice_get_within}
-use Rattle.wm_event.specs.declared.event.Event.{Event}
 use Rattle.wm_event.specs.declared.event.EventKey.{EventKey}
-use Rattle.wm_event.specs.Event.{writes}
 use Rattle.wm_event.specs.Log.{event_in}
 use Rattle.wm_races.specs.Window.{IsAmongBegins}
 use Rattle.wm_races.proofs.begins.Begins.of.Goals as goal
