@@ -405,6 +405,7 @@ def with_program(tally, tests, verdicts, program, is_all):
         test_second_enumeration(tally, tests, stream_on)
         test_same_answers(tally, tests, stream_on)
         outcome_tests.test_command(tally, program, room)
+        outcome_tests.test_scripts(tally, tests, stream_on, program)
         outcome_tests.test_explored(tally, tests, names, stream_on, program, is_all)
         run_tests.test_run(tally, program, room)
 

@@ -9,18 +9,22 @@ from typing import Any
 from wmlabtools import TOP, harness
 from wmlabtools.harness import Tally
 
+from . import buffers
 from .accesses import BadCycle
 from .candidates import CHUNK, Candidates, Values
-from .explored import Question, explored
+from .explored import Question, explored, logs_of
 from .judges import Judge, Stream
 from .orders import Key
 from .patterns import ends_condition
+from .scripts import Scripts, histories_of
 from .tests import LitmusTest
 
 OUTCOMES = os.path.join(TOP, "litmus/outcomes")
 EXAMPLES = os.path.join(TOP, "examples")
 # Of a test with more candidates the outcomes are not compared, unless all tests are.
 MOST_CANDIDATES = 20_000
+# Tests whose scripts are searched for.
+SCRIPTED = ("SB", "SB+sc", "MP", "MP+sc", "S", "R", "2+2W", "CoRR", "LB")
 # A causal outcome is looked for among no more executions of the threads than this.
 EVENTS = "64"
 
@@ -81,6 +85,8 @@ ANSWERS: tuple[tuple[tuple[str, ...], int, str], ...] = (
     (("seqlock-plain-first.wasm", "16", *SEQLOCK), 1, '": - 1, - 10'),
     (("once.wasm", "16", "first", "second", "--forall", "{15,0xffffffff} {15,0xffffffff}"), 0, "ok --forall"),
     (("once-plain-flag.wasm", "16", "first", "second", "--forbid", "{0,7,8} *"), 1, '": 0 15, 7 15, 8 15'),
+    ((*SB, "--forbid", "0 0"), 1, "kept explored/store-buffering_0_0.json, .txt, .svg, .turns"),
+    (("seqlock-plain-first.wasm", "16", *SEQLOCK), 1, "no script of drive for - 10: store buffers do not give it"),
 )
 # Words of mistakes, and how the one line begins.
 MISTAKES: tuple[tuple[tuple[str, ...], str], ...] = (
@@ -130,6 +136,10 @@ def test_kept(tally: Tally, program: str, folder: str) -> None:
             with open(stem + ending, encoding="utf-8") as file:
                 text = file.read()
         tally.check(part in text, f"{stem}{ending} is kept", text)
+    with open(os.path.join(folder, "store-buffering_0_0.turns"), encoding="utf-8") as file:
+        turns = file.read().strip()
+    answer = harness.run(program, ["drive", os.path.join(EXAMPLES, SB[0]), turns, *SB[2:]])
+    tally.check(answer.printed.startswith("outcome 0 0\nallowed "), "drive gives the outcome of a kept script", answer)
 
 
 def test_without_dot(tally: Tally, program: str, room: str) -> None:
@@ -140,8 +150,26 @@ def test_without_dot(tally: Tally, program: str, room: str) -> None:
         os.symlink(str(shutil.which(name)), os.path.join(tools, name))
     out, err, ended = run(program, (*SB, "--forbid", "0 0", "--kept", "few"), room, path=tools)
     there = sorted(os.listdir(os.path.join(room, "few"))) if ended == 1 else []
-    wanted = [f"store-buffering_0_0.{ending}" for ending in ("json", "svg", "txt")]
+    wanted = [f"store-buffering_0_0.{ending}" for ending in ("json", "svg", "turns", "txt")]
     tally.check(there == wanted, "outcomes keeps a picture without dot", (there, out, err))
+
+
+def test_scripts(
+    tally: Tally, tests: Mapping[str, LitmusTest], stream_on: Callable[[LitmusTest], Stream], program: str
+) -> None:
+    """An outcome of a test has a script exactly if store buffers give it, as another search finds. A bound is told."""
+    for name in SCRIPTED:
+        test = tests[name]
+        given = {test.results(values) for values in buffers.outcomes(buffers.Machine(test))}
+        with stream_on(test) as stream:
+            question = Question(program, stream.module, EVENTS, test.starts)
+            outcomes = explored(question).outcomes
+            logs = logs_of(question, outcomes)
+            scripts = Scripts(question)
+            found = {outcome for outcome in outcomes if scripts.script(outcome, histories_of(logs[outcome])).turns}
+            tally.check(found == given & set(outcomes), f"the outcomes of {name} with a script", (found, given))
+    short = Scripts(Question(program, os.path.join(EXAMPLES, SB[0]), "1", SB[2:])).script("0 0", ((), ()))
+    tally.check("within 1 events of thread " in short.reason, "a search for a script that met its bound", short)
 
 
 # ---- explore on the suite
