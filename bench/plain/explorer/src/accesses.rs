@@ -2,7 +2,14 @@
 use crate::code::{AccessCode, AccessKind, Update};
 
 fn access(kind: AccessKind, is_atomic: bool, width: u32, signed: u32, bits: u32) -> AccessCode {
-    AccessCode { kind, is_atomic, width, offset: 0, signed, bits }
+    AccessCode {
+        kind,
+        is_atomic,
+        width,
+        offset: 0,
+        signed,
+        bits,
+    }
 }
 
 /// A plain load or store, by its byte.
@@ -31,7 +38,10 @@ pub fn plain(byte: u8) -> AccessCode {
 /// An atomic instruction, by its number after the byte 0xfe.
 pub fn atomic(code: u32) -> AccessCode {
     const FIRST: u32 = 0x10;
-    assert!((FIRST..0x4f).contains(&code), "atomic instruction {code:#x}");
+    assert!(
+        (FIRST..0x4f).contains(&code),
+        "atomic instruction {code:#x}"
+    );
     let kind = match (code - FIRST) / 7 {
         0 => AccessKind::Load,
         1 => AccessKind::Store,

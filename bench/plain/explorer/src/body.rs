@@ -32,7 +32,13 @@ pub struct Body<'m> {
 impl<'m> Body<'m> {
     pub fn new(bytes: &'m [u8], of: &'m [Signature]) -> Self {
         let (bytes, function, blocks) = (Bytes::new(bytes), Function::default(), Vec::new());
-        Body { bytes, of, function, blocks, height: 0 }
+        Body {
+            bytes,
+            of,
+            function,
+            blocks,
+            height: 0,
+        }
     }
 
     pub fn function(mut self, signature: Signature) -> Function {
@@ -53,7 +59,13 @@ impl<'m> Body<'m> {
 
     fn open_block(&mut self, start: Option<u32>, results: u32) {
         let (height, open, test) = (self.height, Vec::new(), None);
-        self.blocks.push(Block { start, height, results, open, test });
+        self.blocks.push(Block {
+            start,
+            height,
+            results,
+            open,
+            test,
+        });
     }
 
     fn here(&self) -> u32 {
@@ -79,10 +91,18 @@ impl<'m> Body<'m> {
         let index = self.blocks.len() - 1 - depth as usize;
         let block = &mut self.blocks[index];
         match block.start {
-            Some(next) => Target { next, keep: 0, height: block.height },
+            Some(next) => Target {
+                next,
+                keep: 0,
+                height: block.height,
+            },
             None => {
                 block.open.push(open);
-                Target { next: 0, keep: block.results, height: block.height }
+                Target {
+                    next: 0,
+                    keep: block.results,
+                    height: block.height,
+                }
             }
         }
     }
@@ -172,7 +192,10 @@ impl<'m> Body<'m> {
 
     fn call(&mut self) {
         let index = self.bytes.number();
-        let Signature { parameters, results } = self.of[index as usize];
+        let Signature {
+            parameters,
+            results,
+        } = self.of[index as usize];
         self.add(Instruction::Call(index), parameters as u32, results as u32);
     }
 
@@ -185,7 +208,11 @@ impl<'m> Body<'m> {
             AccessKind::Update(_) => (2, 1),
             AccessKind::CompareExchange => (3, 1),
         };
-        self.add(Instruction::Access(AccessCode { offset, ..code }), takes, leaves);
+        self.add(
+            Instruction::Access(AccessCode { offset, ..code }),
+            takes,
+            leaves,
+        );
     }
 
     fn atomic(&mut self) {

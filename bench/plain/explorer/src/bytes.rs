@@ -60,7 +60,9 @@ impl<'m> Bytes<'m> {
             0x23 => globals[self.number() as usize],
             0x41 => u64::from(self.signed() as u32),
             0x42 => self.signed() as u64,
-            0x43 => u64::from(u32::from_le_bytes(self.take(4).try_into().expect("4 bytes"))),
+            0x43 => u64::from(u32::from_le_bytes(
+                self.take(4).try_into().expect("4 bytes"),
+            )),
             0x44 => u64::from_le_bytes(self.take(8).try_into().expect("8 bytes")),
             byte => panic!("no constant begins with {byte:#x}"),
         };

@@ -18,8 +18,17 @@ pub struct Choices<'s> {
 impl<'s> Choices<'s> {
     /// Those that keep the rules so far. Of those of a plain read that read one value, the ones with the least ties.
     pub fn of(module: &'s Module, state: &'s State, thread: usize, access: Access) -> Vec<Choice> {
-        let writers = (access.address..access.address + access.width).map(|byte| writers_of(state, thread, byte)).collect();
-        let mut choices = Choices { module, state, thread, access, writers, found: Vec::new() };
+        let writers = (access.address..access.address + access.width)
+            .map(|byte| writers_of(state, thread, byte))
+            .collect();
+        let mut choices = Choices {
+            module,
+            state,
+            thread,
+            access,
+            writers,
+            found: Vec::new(),
+        };
         choices.choose(0, [INITIAL; 8]);
         choices.found
     }
@@ -46,10 +55,15 @@ impl<'s> Choices<'s> {
         let is_whole = |writer: u8| {
             writer != INITIAL && {
                 let write = &self.state.graph.events[usize::from(writer)];
-                write.is_tear_free() && write.address == access.address && write.width == access.width
+                write.is_tear_free()
+                    && write.address == access.address
+                    && write.width == access.width
             }
         };
-        is_whole(from[byte]) && from[..byte].iter().any(|earlier| *earlier != from[byte] && is_whole(*earlier))
+        is_whole(from[byte])
+            && from[..byte]
+                .iter()
+                .any(|earlier| *earlier != from[byte] && is_whole(*earlier))
     }
 
     fn value(&self, from: &[u8; 8]) -> u64 {
@@ -65,14 +79,18 @@ impl<'s> Choices<'s> {
 
     fn add(&mut self, from: [u8; 8]) {
         let graph = &self.state.graph;
-        let event = self.state.event(self.thread, &self.access, self.value(&from), from);
+        let event = self
+            .state
+            .event(self.thread, &self.access, self.value(&from), from);
         if !graph.may_read(&event) {
             return;
         }
         let mut ties = event.writers();
         if !event.is_atomic {
             let before = graph.before_next(self.thread);
-            ties = members(ties & before).filter(|writer| graph.events[*writer].is_atomic).fold(0, |all, writer| all | 1 << writer);
+            ties = members(ties & before)
+                .filter(|writer| graph.events[*writer].is_atomic)
+                .fold(0, |all, writer| all | 1 << writer);
         }
         let choice = Choice { event, ties };
         if !event.is_atomic {
@@ -91,8 +109,22 @@ fn writers_of(state: &State, thread: usize, byte: u32) -> Vec<u8> {
     let graph = &state.graph;
     let writes = (0..graph.events.len()).filter(|event| graph.events[*event].writes_byte(byte));
     let before = graph.before_next(thread);
-    let known: Vec<usize> = writes.clone().filter(|write| before >> write & 1 == 1).collect();
-    let is_covered = |write: &usize| known.iter().any(|later| graph.before[*later] >> write & 1 == 1);
+    let known: Vec<usize> = writes
+        .clone()
+        .filter(|write| before >> write & 1 == 1)
+        .collect();
+    let is_covered = |write: &usize| {
+        known
+            .iter()
+            .any(|later| graph.before[*later] >> write & 1 == 1)
+    };
     let initial = known.is_empty().then_some(INITIAL);
-    initial.into_iter().chain(writes.filter(|write| !is_covered(write)).map(|write| write as u8)).collect()
+    initial
+        .into_iter()
+        .chain(
+            writes
+                .filter(|write| !is_covered(write))
+                .map(|write| write as u8),
+        )
+        .collect()
 }

@@ -18,7 +18,10 @@ fn signatures(bytes: &mut Bytes) -> Vec<Signature> {
         bytes.take(parameters);
         let results = bytes.number() as usize;
         bytes.take(results);
-        found.push(Signature { parameters, results });
+        found.push(Signature {
+            parameters,
+            results,
+        });
     }
     found
 }
@@ -88,7 +91,11 @@ pub fn module(file: &[u8]) -> Module {
         let mut section = Bytes::new(bytes.take(size));
         match id {
             1 => types = signatures(&mut section),
-            3 => of = (0..section.number()).map(|_| types[section.number() as usize]).collect(),
+            3 => {
+                of = (0..section.number())
+                    .map(|_| types[section.number() as usize])
+                    .collect()
+            }
             5 => module.pages = memory(&mut section),
             6 => module.globals = globals(&mut section),
             7 => exports(&mut section, &mut module),

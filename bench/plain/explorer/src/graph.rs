@@ -44,7 +44,9 @@ impl Event {
     /// The events that it reads from.
     pub fn writers(&self) -> u128 {
         let from = &self.from[..self.width as usize * usize::from(self.reads)];
-        from.iter().filter(|writer| **writer != INITIAL).fold(0, |all, writer| all | 1 << writer)
+        from.iter()
+            .filter(|writer| **writer != INITIAL)
+            .fold(0, |all, writer| all | 1 << writer)
     }
 
     fn reads_initial(&self) -> bool {
@@ -63,7 +65,10 @@ pub struct Graph {
 
 impl Graph {
     pub fn new(threads: usize) -> Self {
-        Graph { last: vec![None; threads], ..Graph::default() }
+        Graph {
+            last: vec![None; threads],
+            ..Graph::default()
+        }
     }
 
     /// What happens before the next event of a thread, but for what it reads from.
@@ -74,7 +79,9 @@ impl Graph {
     fn before_new(&self, event: &Event) -> u128 {
         members(event.writers())
             .filter(|writer| self.events[*writer].releases_to(event))
-            .fold(self.before_next(event.thread), |all, writer| all | self.before[writer] | 1 << writer)
+            .fold(self.before_next(event.thread), |all, writer| {
+                all | self.before[writer] | 1 << writer
+            })
     }
 
     fn happens_before(&self, first: usize, second: usize) -> bool {
@@ -116,7 +123,8 @@ impl Graph {
         self.events.push(event);
         self.before.push(before);
         self.order.add(before);
-        (!event.reads || self.order_read(place)) && (!event.writes || !event.is_atomic || self.order_write(place))
+        (!event.reads || self.order_read(place))
+            && (!event.writes || !event.is_atomic || self.order_write(place))
             && self.order.settle()
             && self.order.exists()
     }
@@ -140,13 +148,19 @@ impl Graph {
         if event.reads_initial() && event.is_atomic && is_same && !self.order.put(read, other) {
             return false;
         }
-        members(event.writers()).all(|writer| writer == other || self.order_three(writer, other, read, is_same))
+        members(event.writers())
+            .all(|writer| writer == other || self.order_three(writer, other, read, is_same))
     }
 
     fn order_three(&mut self, writer: usize, other: usize, read: usize, is_same: bool) -> bool {
         let (event, from, write) = (self.events[read], self.events[writer], self.events[other]);
         let is_before = self.happens_before(writer, read);
-        if from.is_atomic && is_before && self.happens_before(other, read) && from.has_range_of(&write) && !self.order.put(other, writer) {
+        if from.is_atomic
+            && is_before
+            && self.happens_before(other, read)
+            && from.has_range_of(&write)
+            && !self.order.put(other, writer)
+        {
             return false;
         }
         if !event.is_atomic || !is_same {
@@ -156,7 +170,11 @@ impl Graph {
             return false;
         }
         if from.releases_to(&event) {
-            self.order.keep_out(Between { writer, other, read });
+            self.order.keep_out(Between {
+                writer,
+                other,
+                read,
+            });
         }
         true
     }

@@ -26,7 +26,9 @@ const STACK: usize = 1 << 30;
 fn started(module: &Module, word: &str) -> Thread {
     let mut parts = word.split(':');
     let name = parts.next().expect("a name");
-    let arguments: Vec<u64> = parts.map(|part| part.parse().expect("an argument")).collect();
+    let arguments: Vec<u64> = parts
+        .map(|part| part.parse().expect("an argument"))
+        .collect();
     Thread::start(module, name, &arguments).unwrap_or_else(|| panic!("{word}: no such function"))
 }
 
@@ -34,11 +36,20 @@ fn run(words: &[String]) {
     let module = decode::module(&std::fs::read(&words[0]).expect("a module"));
     let most = words[1].parse().expect("a number of events");
     let mut search = Search::new(&module, most);
-    search.start(words[2..].iter().map(|word| started(&module, word)).collect());
+    search.start(
+        words[2..]
+            .iter()
+            .map(|word| started(&module, word))
+            .collect(),
+    );
     for outcome in &search.outcomes {
         println!("outcome {outcome}");
     }
-    let found = format!("outcomes={} graphs={}", search.outcomes.len(), search.graphs);
+    let found = format!(
+        "outcomes={} graphs={}",
+        search.outcomes.len(),
+        search.graphs
+    );
     match (search.long.first(), search.cut.first()) {
         (Some(thread), _) => println!("bounded {found} steps thread {thread}"),
         (None, Some(thread)) => println!("bounded {found} events thread {thread}"),
@@ -48,7 +59,9 @@ fn run(words: &[String]) {
 
 fn main() {
     let words: Vec<String> = std::env::args().skip(1).collect();
-    let work = std::thread::Builder::new().stack_size(STACK).spawn(move || run(&words));
+    let work = std::thread::Builder::new()
+        .stack_size(STACK)
+        .spawn(move || run(&words));
     if work.expect("a thread").join().is_err() {
         std::process::exit(3);
     }

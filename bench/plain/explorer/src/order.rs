@@ -47,7 +47,10 @@ impl Order {
             return false;
         }
         if !self.is_before(first, second) {
-            let (early, late) = (self.before[first] | 1 << first, self.after[second] | 1 << second);
+            let (early, late) = (
+                self.before[first] | 1 << first,
+                self.after[second] | 1 << second,
+            );
             members(late).for_each(|event| self.before[event] |= early);
             members(early).for_each(|event| self.after[event] |= late);
         }
@@ -60,7 +63,11 @@ impl Order {
 
     /// Draws one conclusion of what is open: Some(false) if there is no order, None if it stays open.
     fn conclude(&mut self, between: Between) -> Option<bool> {
-        let Between { writer, other, read } = between;
+        let Between {
+            writer,
+            other,
+            read,
+        } = between;
         if self.is_before(other, writer) || self.is_before(read, other) {
             Some(true)
         } else if self.is_before(writer, other) {
@@ -92,12 +99,19 @@ impl Order {
 
     /// Whether there is an order, after all conclusions.
     pub fn exists(&self) -> bool {
-        let Some(&Between { writer, other, read }) = self.open.first() else {
+        let Some(&Between {
+            writer,
+            other,
+            read,
+        }) = self.open.first()
+        else {
             return true;
         };
-        [(read, other), (other, writer)].into_iter().any(|(first, second)| {
-            let mut guess = self.clone();
-            guess.put(first, second) && guess.settle() && guess.exists()
-        })
+        [(read, other), (other, writer)]
+            .into_iter()
+            .any(|(first, second)| {
+                let mut guess = self.clone();
+                guess.put(first, second) && guess.settle() && guess.exists()
+            })
     }
 }

@@ -61,7 +61,9 @@ impl<'m> Search<'m> {
         if running.end == Some(End::Steps) {
             self.long.insert(thread);
         }
-        if state.next[thread].is_some() && state.counts[thread] >= self.most.min(MAX_EVENTS / state.threads.len()) {
+        if state.next[thread].is_some()
+            && state.counts[thread] >= self.most.min(MAX_EVENTS / state.threads.len())
+        {
             state.next[thread] = None;
             self.cut.insert(thread);
         }
@@ -90,7 +92,11 @@ impl<'m> Search<'m> {
             return Added::WithoutOrder;
         }
         self.go_on(state, event.thread, Some(event.value_read));
-        if state.note_turn(event.thread) { Added::GoesOn } else { Added::Idle }
+        if state.note_turn(event.thread) {
+            Added::GoesOn
+        } else {
+            Added::Idle
+        }
     }
 
     fn explore(&mut self, mut state: State) {
@@ -101,39 +107,60 @@ impl<'m> Search<'m> {
             let Some((thread, access, choices)) = self.next_read(&state) else {
                 return self.finish(&state);
             };
-            let events = state.graph.events.len();
-            if access.may_write() {
-                self.note_write(&state, thread, access.address, access.width);
-            }
-            self.tried.push(Tried { thread, place: events, access, is_raced: false });
-            let (mut is_idle, mut goes_on) = (false, false);
-            for choice in &choices {
-                let mut child = state.clone();
-                match self.add(&mut child, choice.event) {
-                    Added::WithoutOrder => (),
-                    Added::Idle => is_idle = true,
-                    Added::GoesOn => {
-                        goes_on = true;
-                        self.explore(child);
-                    }
-                }
-            }
-            let is_raced = self.tried.pop().expect("the read").is_raced;
+            let has_to_wait = self.try_choices(&state, thread, access, &choices);
             let old = state.marks[thread].take();
-            if !is_raced && !is_idle && goes_on && old.is_none() {
+            if !has_to_wait && old.is_none() {
                 return;
             }
+            let events = state.graph.events.len();
             let mut tried = old.map_or(Vec::new(), |mark| mark.tried.clone());
             tried.extend(choices);
             state.marks[thread] = Some(Rc::new(Mark { tried, events }));
         }
     }
 
+    /// Explores what comes of each choice of a read; whether the read may also take from a later write.
+    fn try_choices(
+        &mut self,
+        state: &State,
+        thread: usize,
+        access: Access,
+        choices: &[Choice],
+    ) -> bool {
+        if access.may_write() {
+            self.note_write(state, thread, access.address, access.width);
+        }
+        self.tried.push(Tried {
+            thread,
+            place: state.graph.events.len(),
+            access,
+            is_raced: false,
+        });
+        let (mut is_idle, mut goes_on) = (false, false);
+        for choice in choices {
+            let mut child = state.clone();
+            match self.add(&mut child, choice.event) {
+                Added::WithoutOrder => (),
+                Added::Idle => is_idle = true,
+                Added::GoesOn => {
+                    goes_on = true;
+                    self.explore(child);
+                }
+            }
+        }
+        self.tried.pop().expect("the read").is_raced || is_idle || !goes_on
+    }
+
     /// A thread that reads next, with choices: one without a mark, or with new choices.
     fn next_read(&self, state: &State) -> Option<(usize, Access, Vec<Choice>)> {
-        let reads = || (0..state.next.len()).filter_map(|thread| Some((thread, state.next[thread]?)));
+        let reads =
+            || (0..state.next.len()).filter_map(|thread| Some((thread, state.next[thread]?)));
         if let Some((thread, access)) = reads().find(|(thread, _)| state.marks[*thread].is_none()) {
-            return Some((thread, access, Choices::of(self.module, state, thread, access)));
+            return Some((
+                thread,
+                access,
+                Choices::of(self.module, state, thread, access),
+            ));
         }
         reads().find_map(|(thread, access)| {
             let choices = self.new_choices(state, thread, access);
@@ -144,14 +171,19 @@ impl<'m> Search<'m> {
     fn new_choices(&self, state: &State, thread: usize, access: Access) -> Vec<Choice> {
         let mark = state.marks[thread].as_ref().expect("a mark");
         let overlaps = |event: &Event| {
-            event.writes && event.address < access.address + access.width && access.address < event.address + event.width
+            event.writes
+                && event.address < access.address + access.width
+                && access.address < event.address + event.width
         };
         if !state.graph.events[mark.events..].iter().any(overlaps) {
             return Vec::new();
         }
         let mut choices = Choices::of(self.module, state, thread, access);
         choices.retain(|choice| match access.is_atomic {
-            true => choice.ties.checked_shr(mark.events as u32).is_some_and(|new| new != 0),
+            true => choice
+                .ties
+                .checked_shr(mark.events as u32)
+                .is_some_and(|new| new != 0),
             false => !mark.tried.iter().any(|other| choice.is_served_by(other)),
         });
         choices
@@ -159,7 +191,11 @@ impl<'m> Search<'m> {
 
     /// Notes the outcome, if each thread ended.
     fn finish(&mut self, state: &State) {
-        let ends: Option<Vec<String>> = state.threads.iter().map(|thread| word(thread.end.as_ref()?)).collect();
+        let ends: Option<Vec<String>> = state
+            .threads
+            .iter()
+            .map(|thread| word(thread.end.as_ref()?))
+            .collect();
         if let Some(ends) = ends {
             self.outcomes.insert(ends.join(" "));
         }

@@ -80,7 +80,10 @@ impl State {
             return false;
         }
         let earlier = self.turns[thread].take();
-        self.turns[thread] = Some(Rc::new(Turn { thread: Rc::clone(&self.threads[thread]), earlier }));
+        self.turns[thread] = Some(Rc::new(Turn {
+            thread: Rc::clone(&self.threads[thread]),
+            earlier,
+        }));
         true
     }
 

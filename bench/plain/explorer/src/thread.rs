@@ -79,21 +79,34 @@ impl Thread {
             return None;
         }
         let (frames, stack, globals) = (Vec::new(), arguments.to_vec(), module.globals.clone());
-        let mut thread = Thread { frames, stack, globals, steps: 0, end: None };
+        let mut thread = Thread {
+            frames,
+            stack,
+            globals,
+            steps: 0,
+            end: None,
+        };
         thread.call(module, function);
         Some(thread)
     }
 
     /// Whether the other one goes on in the same way.
     pub fn is_same(&self, other: &Thread) -> bool {
-        self.frames == other.frames && self.stack == other.stack && self.globals == other.globals && self.end == other.end
+        self.frames == other.frames
+            && self.stack == other.stack
+            && self.globals == other.globals
+            && self.end == other.end
     }
 
     fn call(&mut self, module: &Module, function: usize) {
         let called = &module.functions[function];
         let base = self.stack.len() - called.parameters;
         self.stack.resize(self.stack.len() + called.locals, 0);
-        self.frames.push(Frame { function: function as u32, next: 0, base: base as u32 });
+        self.frames.push(Frame {
+            function: function as u32,
+            next: 0,
+            base: base as u32,
+        });
     }
 
     fn pop(&mut self) -> u64 {
@@ -129,9 +142,21 @@ impl Thread {
         if address + u64::from(code.width) > module.pages * 65_536 {
             return Err("out-of-bounds");
         }
-        let AccessCode { kind, is_atomic, width, .. } = *code;
+        let AccessCode {
+            kind,
+            is_atomic,
+            width,
+            ..
+        } = *code;
         let operand = operand & mask(width);
-        Ok(Access { kind, is_atomic, address: address as u32, width, operand, expected })
+        Ok(Access {
+            kind,
+            is_atomic,
+            address: address as u32,
+            width,
+            operand,
+            expected,
+        })
     }
 
     /// Runs up to the next access, which is answered; None if the thread ends before.
@@ -160,7 +185,10 @@ impl Thread {
     pub fn make_access(&mut self, module: &Module, read: u64) {
         let frame = self.frames.last_mut().expect("a frame");
         let code = &module.functions[frame.function as usize].code[frame.next as usize];
-        let Instruction::Access(AccessCode { kind, signed, bits, .. }) = *code else {
+        let Instruction::Access(AccessCode {
+            kind, signed, bits, ..
+        }) = *code
+        else {
             unreachable!("the thread stands at an access")
         };
         frame.next += 1;
@@ -172,7 +200,11 @@ impl Thread {
         };
         self.stack.truncate(self.stack.len() - operands);
         if kind != AccessKind::Store {
-            let value = if signed == 0 { read } else { numeric::extend(read, signed, bits) };
+            let value = if signed == 0 {
+                read
+            } else {
+                numeric::extend(read, signed, bits)
+            };
             self.stack.push(value);
         }
     }
@@ -226,24 +258,39 @@ impl Thread {
     }
 
     /// An instruction after which the next one comes.
-    fn simple(&mut self, module: &Module, base: usize, instruction: Instruction) -> Result<(), &'static str> {
-        let value = match instruction {
+    fn simple(
+        &mut self,
+        module: &Module,
+        base: usize,
+        instruction: Instruction,
+    ) -> Result<(), &'static str> {
+        match instruction {
+            Instruction::Nop => (),
             Instruction::Drop => {
                 self.pop();
-                return Ok(());
             }
-            Instruction::Set(local) => {
-                self.stack[base + local as usize] = self.pop();
-                return Ok(());
+            Instruction::Set(local) => self.stack[base + local as usize] = self.pop(),
+            Instruction::SetGlobal(global) => self.globals[global as usize] = self.pop(),
+            _ => {
+                let value = self.result(module, base, instruction)?;
+                self.stack.push(value);
             }
+        }
+        Ok(())
+    }
+
+    /// What an instruction of one result makes of its operands.
+    fn result(
+        &mut self,
+        module: &Module,
+        base: usize,
+        instruction: Instruction,
+    ) -> Result<u64, &'static str> {
+        Ok(match instruction {
             Instruction::Tee(local) => {
                 let value = self.pop();
                 self.stack[base + local as usize] = value;
                 value
-            }
-            Instruction::SetGlobal(global) => {
-                self.globals[global as usize] = self.pop();
-                return Ok(());
             }
             Instruction::Get(local) => self.stack[base + local as usize],
             Instruction::GetGlobal(global) => self.globals[global as usize],
@@ -251,7 +298,11 @@ impl Thread {
             Instruction::MemorySize => module.pages,
             Instruction::Select => {
                 let (test, other, first) = (self.pop(), self.pop(), self.pop());
-                if test != 0 { first } else { other }
+                if test != 0 {
+                    first
+                } else {
+                    other
+                }
             }
             Instruction::IsZero => u64::from(self.pop() == 0),
             Instruction::Wrap => self.pop() & u64::from(u32::MAX),
@@ -265,9 +316,7 @@ impl Thread {
                 let (second, first) = (self.pop(), self.pop());
                 numeric::binary(byte, bits, first, second)?
             }
-            _ => return Ok(()),
-        };
-        self.stack.push(value);
-        Ok(())
+            _ => unreachable!("it has a result"),
+        })
     }
 }
