@@ -1,4 +1,5 @@
-"""The search for a script of `wmlab drive` with an outcome: which thread goes on when, and which stores leave their buffers.
+"""The search for a script of `wmlab drive` with an outcome: which thread goes on when, and which stores leave their
+buffers.
 
 What a thread does next depends on the values that it has read alone. `wmlab trace` tells it, once for each history of a
 thread; the store buffers and the memory are kept here."""
