@@ -11,7 +11,7 @@ import subprocess
 import tempfile
 from collections import Counter
 
-from litmustools import bytewise, commands, cycle_check, judges, outcome_tests, run_tests
+from litmustools import bytewise, commands, cycle_check, gallery_tests, judges, outcome_tests, run_tests
 from litmustools.accesses import BadCycle
 from litmustools.buffers import WRONG, Machine, outcomes, script
 from litmustools.candidates import Candidates, ask
@@ -318,14 +318,15 @@ def test_commands(tally, program, room):
     holds = status == 0 and "* not permitted  0 0" in asked and "96 candidates, 4 outcomes" in asked
     tally.check(holds, "candidates of SB+sc", asked + err)
     test_kept(tally, program, kept)
-    words_of_gallery = ["--test", "SB", "--test", "SB+sc", "--iterations", "5000", "--run-rounds", "5"]
+    words_of_gallery = ["--test", "SB", "--test", "SB+sc", "--test", "LB", "--iterations", "5000", "--run-rounds", "5"]
     words_of_gallery += ["--wmlab", program]
     html = os.path.join(room, "html")
     page, err, status = ran("gallery", *words_of_gallery, "--out", "-", "--html", html)
     rows = [line for line in page.splitlines() if line.startswith("| `SB")]
     is_shown = any("| permitted by 6 of 6 | `0*" in line for line in rows)
     holds = status == 0 and is_shown and "not permitted: 6 V5" in page
-    tally.check(holds, "gallery of two tests", page + err)
+    tally.check(holds, "gallery of some tests", page + err)
+    gallery_tests.test_explored_cells(tally, page)
     with open(os.path.join(html, "SB+sc.svg"), encoding="utf-8") as file:
         drawn = file.read()
     parts = ("Wsc x := 1</text>", "SB+sc, y=0; x=0. Not allowed: ", "fr: the first event reads")
@@ -415,6 +416,8 @@ def without_program(tally, tests, verdicts, is_all):
     test_suite(tally, tests)
     test_cycle_check(tally, tests)
     test_finds(tally, tests)
+    gallery_tests.test_listed(tally, tests)
+    gallery_tests.test_columns(tally, tests)
     test_page(tally, tests, verdicts)
     test_theorem(tally, tests, verdicts)
     outcome_tests.test_patterns(tally)

@@ -1,8 +1,10 @@
 """What `wmlab explore` answers about a module: its outcomes, and whether a bound was met; and a log of each."""
+import json
 import re
 import subprocess
 from collections.abc import Sequence
 from dataclasses import dataclass
+from typing import Any
 
 from .judges import Failed
 
@@ -55,6 +57,22 @@ def logs_of(question: Question, outcomes: Sequence[str]) -> dict[str, str]:
     if len(lines) != len(outcomes):
         raise Failed(f"{question.program} witnesses: {len(lines)} documents for {len(outcomes)} outcomes")
     return dict(zip(outcomes, lines))
+
+
+def is_causal(document: str) -> bool:
+    """Whether program order and reads-from, of any byte, have no cycle."""
+    threads: list[list[list[Any]]] = [thread[4] for thread in json.loads(document)[2]]
+    done = [0] * len(threads)
+
+    def is_next(thread: int) -> bool:
+        if done[thread] == len(threads[thread]):
+            return False
+        kind, *_, last = threads[thread][done[thread]]
+        return kind == "w" or all(not writer or writer[1] < done[writer[0]] for writer in last)
+
+    while (ready := next(filter(is_next, range(len(threads))), None)) is not None:
+        done[ready] += 1
+    return done == [len(events) for events in threads]
 
 
 def has_explore(program: str) -> bool:

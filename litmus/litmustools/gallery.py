@@ -13,12 +13,15 @@ from wmlabtools import TOP
 from . import judges
 from .buffers import Machine, outcomes, script
 from .candidates import Candidates, ask
+from .explored import Question, explored, is_causal
 from .judges import Failed, Stream
 from .modules import bytes_of
 from .tests import LitmusTest
 from .witnesses import Kind, witness_of_cycle
 
 RUN_COMMAND = os.path.join(TOP, "litmus/run")
+# The most events of a thread that are explored: a thread of a test has fewer.
+EVENTS = "64"
 
 
 @dataclass
@@ -33,7 +36,7 @@ class Seen:
 @dataclass
 class Row:
     """What came of a test. `log` is the first allowed candidate with the cycle's outcome, or one that is refused.
-    `engines` has what each engine gave that ran it."""
+    `is_listed` is whether `explore` lists the outcome. `engines` has what each engine gave that ran the test."""
 
     test: LitmusTest
     module: str
@@ -42,6 +45,7 @@ class Row:
     log: str = ""
     script: str | None = None
     runs: int = 0
+    is_listed: bool | None = None
     engines: dict[str, Seen] = field(default_factory=dict)
 
     @property
@@ -63,6 +67,10 @@ class Row:
             found += [f"{self.test.name}: an outcome of {engine} is {line}" for line in others]
         if (self.script or self.runs) and not self.is_permitted:
             found.append(f"{self.test.name}: the store buffers gave the cycle's outcome, which is not permitted")
+        if self.is_listed and not self.is_permitted:
+            found.append(f"{self.test.name}: explore lists the cycle's outcome, which is not permitted")
+        if self.is_listed is False and self.is_permitted and is_causal(self.log):
+            found.append(f"{self.test.name}: explore does not list the cycle's outcome, which a causal execution has")
         return found
 
 
@@ -146,6 +154,14 @@ def run_rounds(row: Row, program: str, rounds: int) -> None:
         raise Failed(f"{row.test.name}: run prints {lines[-2:]}")
     counts = {line.strip().split("  ")[1]: int(line.split()[0]) for line in lines if line.startswith(" ")}
     row.runs = counts.get(row.test.outcome, 0)
+
+
+def explore(row: Row, program: str) -> None:
+    """Whether `explore` lists the cycle's outcome."""
+    found = explored(Question(program, row.module, EVENTS, row.test.starts))
+    if found.bound is not None:
+        raise Failed(f"{row.test.name}: explore met a bound: {found.bound}")
+    row.is_listed = row.test.outcome in found.outcomes
 
 
 def seen_of(row: Row, run: dict[str, Any]) -> Seen:

@@ -1,10 +1,8 @@
 """Tests of litmus/outcomes, and of `wmlab explore` on the suite beside its candidates."""
-import json
 import os
 import shutil
 from collections.abc import Callable, Iterator, Mapping, Sequence
 from itertools import islice
-from typing import Any
 
 from wmlabtools import TOP, harness
 from wmlabtools.harness import Tally
@@ -12,7 +10,7 @@ from wmlabtools.harness import Tally
 from . import buffers
 from .accesses import BadCycle
 from .candidates import CHUNK, Candidates, Values
-from .explored import Question, explored, logs_of
+from .explored import Question, explored, is_causal, logs_of
 from .judges import Judge, Stream
 from .orders import Key
 from .patterns import ends_condition
@@ -187,22 +185,6 @@ class AllCandidates(Candidates):
 
     def wanted_values(self, _outcome: Values | None) -> dict[Key, int]:
         return NoFlags()
-
-
-def is_causal(document: str) -> bool:
-    """Whether program order and reads-from, of any byte, have no cycle."""
-    threads: list[list[list[Any]]] = [thread[4] for thread in json.loads(document)[2]]
-    done = [0] * len(threads)
-
-    def is_next(thread: int) -> bool:
-        if done[thread] == len(threads[thread]):
-            return False
-        kind, *_, last = threads[thread][done[thread]]
-        return kind == "w" or all(not writer or writer[1] < done[writer[0]] for writer in last)
-
-    while (ready := next(filter(is_next, range(len(threads))), None)) is not None:
-        done[ready] += 1
-    return done == [len(events) for events in threads]
 
 
 def is_allowed(lines: Iterator[str], judge: Judge) -> bool:

@@ -11,6 +11,8 @@ from .names import SHAPES
 from .tests import LitmusTest
 
 NEVER = "no"
+# The title of the column of what `explore` lists.
+EXPLORE = "Explore"
 
 
 def shape_name(row: Row) -> str:
@@ -52,6 +54,13 @@ def buffers_text(row: Row, collected: Collected) -> str:
     return f"`{row.script}`; {row.runs}"
 
 
+def explored_text(row: Row) -> str:
+    """Whether `explore` lists the outcome, or why it need not."""
+    if row.is_listed is None:
+        return ""
+    return "listed" if row.is_listed else "left out" if row.is_permitted else NEVER
+
+
 def engine_text(row: Row, engine: str) -> str:
     """How often an engine gave the outcome; nothing if it did not run the test."""
     return str(row.times(engine)) if engine in row.engines else ""
@@ -71,6 +80,7 @@ def counts(rows: Sequence[Row]) -> dict[str, int]:
         "not permitted": len(rows) - len(permitted),
         "permitted, and shown by the store buffers": len(shown),
         "permitted, and not by the store buffers": len(permitted) - len(shown),
+        "permitted, and listed by `explore`": sum(row.is_listed is True for row in permitted),
         "permitted, and seen in an engine": sum(any(map(row.times, row.engines)) for row in permitted),
         "seen, and not permitted": sum(bool(row.finds) for row in rows),
     }
@@ -119,6 +129,8 @@ Made on {date} with {version}: {run_rounds} rounds of `wmlab run`; {asked} candi
   - The buffers make loads in order, and all threads see a published store at once. So load buffering (`LB`), and what
     needs a store that only some threads see (`IRIW`, `WRC`), cannot come from them, although the rules permit the
     plain tests.
+- **Explore**: whether `wmlab explore` lists the outcome. *left out*: in each execution with it program order and
+  reads-from have a cycle ([EXPLORE.md](EXPLORE.md#what-is-left-out)).
 - **{names}**: how often the engine gave the outcome, by [`litmus/run`](LITMUS.md). Each outcome was judged.
 """
 
@@ -161,12 +173,12 @@ def table_lines(collected: Collected) -> Iterator[str]:
         yield ""
         yield f"### {shape}: `{SHAPES[shape]}`"
         yield ""
-        titles = ["Test", "Outcome", "Rules", "Store buffers", *collected.engines]
+        titles = ["Test", "Outcome", "Rules", "Store buffers", EXPLORE, *collected.engines]
         yield f"| {' | '.join(titles)} |"
         yield "|---" * len(titles) + "|"
         for row in rows:
             cells = [f"`{row.test.name}`", outcome_text(row.test), rules_text(row), buffers_text(row, collected)]
-            yield f"| {' | '.join([*cells, *engine_cells(row, collected)])} |"
+            yield f"| {' | '.join([*cells, explored_text(row), *engine_cells(row, collected)])} |"
 
 
 def markdown(collected: Collected) -> str:
@@ -203,7 +215,7 @@ def html_row(row: Row, collected: Collected) -> str:
         f'<span class="{tone}">{escaped(rules_text(row))}</span></summary>'
         f"<p>Cycle <code>{escaped(row.test.cycle.text)}</code>, outcome <code>{escaped(row.test.outcome)}</code>.</p>"
         f"<p>Store buffers: {escaped(buffers_text(row, collected)).replace('`', '')}. "
-        f"{escaped(engines)}.</p>"
+        f"Explore: {escaped(explored_text(row))}. {escaped(engines)}.</p>"
         f'<img loading="lazy" alt="the execution" src="{name}.svg">'
         f'<p><a href="{name}.wat">{name}.wat</a>, <a href="{name}.wasm">{name}.wasm</a>, '
         f'<a href="{name}.json">{name}.json</a></p></details>'
@@ -234,10 +246,11 @@ def html_page(collected: Collected) -> str:
 
 
 def data(collected: Collected) -> str:
-    """The table as JSON lines: name, cycle, outcome, verdict, answers, script, times in `run` and in each engine."""
+    """The table as JSON lines: name, cycle, outcome, verdict, answers, script, times in `run` and in each engine, and
+    whether `explore` lists the outcome."""
     lines = []
     for row in collected.rows:
         verdict = "permitted" if row.is_permitted else "not permitted"
         item = [row.test.name, row.test.cycle.text, row.test.outcome, verdict, dict(row.answers), row.script, row.runs]
-        lines.append(log.compact([*item, {engine: row.times(engine) for engine in row.engines}]))
+        lines.append(log.compact([*item, {engine: row.times(engine) for engine in row.engines}, row.is_listed]))
     return "\n".join(lines) + "\n"
