@@ -20,8 +20,7 @@ returns-in_ok-copy_witness-in-Valid c =
     let w : Witness = c.in_ok-copy_witness-in-Valid.field-0 in
     let copied : w ≡ c.witness.result.now = c.in_ok-copy_witness-in-Valid.ensures in
     let same : leaf ≡ with_witness run w = same-run run leaf w c.requires.log (copied ∙ c.witness.ensures.value) in
-    let valid : IsValid (execution leaf) = subst (Judges (execution leaf)) c.in-Valid.is c.in_ok-judge_sequentially.ensures.judged in
-    (
+    let valid : IsValid (execution leaf) = subst (Judges (execution leaf)) c.in-Valid.is c.in_ok-judge_sequentially.ensures.judged in (
       subst (λ (x : LoggedRun). IsWellShaped x × IsValid (execution x)) same (c.log-log.ensures.shape, valid),
       subst (λ (x : LoggedRun). Keeps x c.args.wanted.now) same (c.if-not-keeps.ensures refl),
     )
