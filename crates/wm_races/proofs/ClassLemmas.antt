@@ -153,6 +153,22 @@ module _ (run : LoggedRun) (once : ListsEachOnce run.log run.witness.order) (key
           r)
           pair.met.meets.weak)
 
+      -- the event is ordered with those of its own thread
+      pub none_own : c.kind.thread ≡ e.thread → (p : RacingPair) → IsRacingPair (execution run) p → IsPairWith run j byte c.places p → ⊥
+      none_own own p racing with =
+          let pair = pair_of_class p racing with in
+          let o = write_place run p in
+          let meets = pair.met.meets in
+          let key : pair.member.key ≡ p.write = same_Some pair.member.key p.write (sym pair.member.listed ∙ pair.met.at) in
+          let same : p.write.thread ≡ e.thread = ap (λ (k : EventKey). k.thread) (sym key) ∙ pair.member.thread ∙ own in
+          ⊎_elim
+          (λ (l : j < o). meets.unordered.0 (in_turn_at j o (key_of e) p.write l at_e pair.met.at (sym same)))
+          (λ (h : o ≤ j). ⊎_elim
+          (λ (l : o < j). meets.unordered.1 (in_turn_at o j p.write (key_of e) l pair.met.at at_e same))
+          (λ (k : j ≤ o). meets.named.0 (omega (arith, h, k)))
+          (cases_lt o j))
+          (cases_lt j o)
+
       module _ (low high : ℕ) (part : IsPart run e j c.places low high) where
         inside_part : (p : RacingPair) → IsRacingPair (execution run) p → (with : IsPairWith run j byte c.places p) → (low ≤ with.1.0) × (with.1.0 < high)
         inside_part p racing with =

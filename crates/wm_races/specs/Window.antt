@@ -1,5 +1,5 @@
 -- Which writes of a byte may race with an event.
-use Rattle.std.specs.Prelude.{◌≡◌, ℕ, ◌<◌, List, Some, IsTrue, nat_eq, slice_get, true}
+use Rattle.std.specs.Prelude.{◌≡◌, ℕ, ◌<◌, ◌%◌, List, Some, IsTrue, nat_eq, slice_get, true}
 use Rattle.std.specs.HashSet.{contains}
 use Rattle.wm_event.specs.declared.event.Event.{Event}
 use Rattle.wm_event.specs.declared.event.EventKey.{EventKey}
@@ -12,9 +12,15 @@ use Rattle.wm_races.specs.Listing.{event_place, write_place}
 use Rattle.wm_races.specs.Races.{IsRacingPair, first_common}
 use Rattle.wm_races.specs.declared.begins.Begins.{Begins}
 use Rattle.wm_races.specs.declared.pair.RacingPair.{RacingPair}
+use Rattle.wm_races.specs.declared.remainders.Remainders.{Remainders}
 
-abbrev pub IsAmongBegins : Begins → ℕ → Type 0
-IsAmongBegins begins address = IsTrue (contains nat_eq begins.addresses address)
+-- an address has one of the remainders
+abbrev pub IsOfRemainder : Remainders → ℕ → Type 0
+IsOfRemainder remainders address = slice_get remainders.taken (address % 64) ≡ Some true
+
+pub record IsAmongBegins (begins : Begins) (address : ℕ) : Type 0 where
+  pub among : IsTrue (contains nat_eq begins.addresses address)
+  pub remainder : IsOfRemainder begins.remainders address
 
 -- each address at which a write of the run begins is among these
 abbrev pub HasBegins : LoggedRun → Begins → Type 0

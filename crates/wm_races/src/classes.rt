@@ -7,6 +7,7 @@ ghost use Rattle.wm_races.specs.Report.{HasSites};
 
 use crate::begins::Begins;
 use crate::pair::key_at;
+use crate::remainders::Remainders;
 use crate::site::{Site, site_of};
 use crate::window::FEW;
 use indexmap::IndexMap;
@@ -37,12 +38,20 @@ pub(crate) struct Class {
 /// The classes of the bytes that many events write.
 pub(crate) struct ClassTable {
     of_byte: IndexMap<u64, List<Class>>,
+    /// The remainders of the bytes that have classes.
+    remainders: Remainders,
+    /// The most classes of a byte, or writes if it has no classes.
+    most: usize,
 }
 
 // By hand, since a derived drop is written out wherever a table goes out of scope.
 impl Drop for ClassTable {
     fn drop(self) {
-        let ClassTable { of_byte: _of_byte } = self;
+        let ClassTable {
+            of_byte: _of_byte,
+            remainders: _remainders,
+            most: _most,
+        } = self;
     }
 }
 
@@ -166,6 +175,25 @@ fn classes_of(
     Ok(Some(classes))
 }
 
+/// The most classes of one of the first bytes given, or writes if it has no classes.
+fn most_groups(
+    candidate: &Candidate,
+    firsts: &Begins,
+    of_byte: &IndexMap<u64, List<Class>>,
+) -> usize {
+    let mut most = 0usize;
+    for index in 0..firsts.len() {
+        if let Some(address) = firsts.get(index) {
+            let groups = match of_byte.get(&address) {
+                Some(classes) => classes.len(),
+                None => candidate.byte_writes(address).len(),
+            };
+            most = most.max(groups);
+        }
+    }
+    most
+}
+
 impl ClassTable {
     /// The table without classes.
     pub fn none(alloc: Global) -> Self
@@ -173,6 +201,8 @@ impl ClassTable {
     {
         ClassTable {
             of_byte: IndexMap::new(alloc),
+            remainders: Remainders::new(),
+            most: usize::MAX,
         }
     }
 
@@ -188,6 +218,7 @@ impl ClassTable {
         ensures sites { IfOk result (HasClassSites candidate.now sites.now) }
     {
         let mut of_byte = IndexMap::new(alloc);
+        let mut remainders = Remainders::new();
         for index in 0..firsts.len() {
             let Some(address) = firsts.get(index) else {
                 continue;
@@ -196,10 +227,16 @@ impl ClassTable {
                 continue;
             }
             if let Some(classes) = classes_of(alloc, candidate, sites, address)? {
+                remainders.add(address);
                 of_byte.insert(address, classes)?;
             }
         }
-        Ok(ClassTable { of_byte })
+        let most = most_groups(candidate, firsts, &of_byte);
+        Ok(ClassTable {
+            of_byte,
+            remainders,
+            most,
+        })
     }
 
     /// The classes of each byte that many events write and that is the first byte of an event.
@@ -220,9 +257,17 @@ impl ClassTable {
     pub fn at(&self, address: u64) -> Option<&[Class]>
         ensures { IfSome result (λ classes. get nat_eq self.now.of_byte address ≡ Some classes.now) }
     {
+        if !self.remainders.has(address) {
+            return None;
+        }
         match self.of_byte.get(&address) {
             Some(classes) => Some(classes.as_slice()),
             None => None,
         }
+    }
+
+    /// The most classes of a byte that is the first one of an event, or writes if it has no classes.
+    pub fn most_groups(&self) -> usize {
+        self.most
     }
 }

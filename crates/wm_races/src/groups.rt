@@ -86,6 +86,17 @@ fn append(groups: &mut List<Group>, more: &[Group]) -> Result<(), AllocError>
     Ok(())
 }
 
+/// Groups with others after them.
+fn joined(mut groups: List<Group>, more: Vec<Group>) -> Result<List<Group>, AllocError>
+    ensures { IfOk result (λ all. all ≡ groups ++ more.items) }
+{
+    if groups.is_empty() {
+        return Ok(List::from_vec(more));
+    }
+    append(&mut groups, more.as_slice())?;
+    Ok(groups)
+}
+
 /// The races of the event at a place of the order, byte by byte and then in the order of the writes.
 pub(crate) fn groups_of(
     alloc: Global,
@@ -112,7 +123,7 @@ pub(crate) fn groups_of(
             Some(classes) => class_groups(alloc, before, event, place, address, classes)?,
             None => pair_groups(alloc, before, begins, event, place, address)?,
         };
-        append(&mut groups, found.as_slice())?;
+        groups = joined(groups, found)?;
     }
     Ok(groups)
 }

@@ -9,9 +9,10 @@ ghost use Rattle.wm_races.specs.Races.{Accesses};
 
 use crate::classes::{Class, Kind};
 use crate::group::Group;
+use crate::near::turn_near;
 use crate::pair::{RacingPair, key_at};
 use wm_event::Event;
-use wm_hb::{HappensBefore, Turning, turn_of};
+use wm_hb::{HappensBefore, Turning};
 
 /// Events in sequence, of which the early ones happen before the event at a place.
 #[derive(Clone, Copy)]
@@ -35,8 +36,9 @@ impl Turning for BeforeRow<'_, '_, '_> {
     }
 }
 
-/// How many of the events at some places, a prefix of them, happen before the event at another place.
-fn count_before(before: &HappensBefore, places: &[usize], place: usize) -> usize
+/// How many of the events at some places, a prefix of them, happen before the event at another place. Only the time depends
+/// on `near`.
+fn count_before(before: &HappensBefore, places: &[usize], place: usize, near: usize) -> usize
     requires { AreInSequenceAt before.now places.now }
     ensures { AreParted (λ o. IsBeforeAt before.now o place) (λ o. IsNotBeforeAt before.now o place) places.now result }
 {
@@ -45,7 +47,7 @@ fn count_before(before: &HappensBefore, places: &[usize], place: usize) -> usize
         places,
         place,
     };
-    turn_of(&row, places.len())
+    turn_near(&row, places.len(), near)
 }
 
 /// Events in sequence, of which the late ones are those that the event at a place happens before.
@@ -70,8 +72,9 @@ impl Turning for AfterRow<'_, '_, '_> {
     }
 }
 
-/// How many of the events at some places, a prefix of them, the event at another place does not happen before.
-fn count_not_after(before: &HappensBefore, places: &[usize], place: usize) -> usize
+/// How many of the events at some places, a prefix of them, the event at another place does not happen before. Only the
+/// time depends on `near`.
+fn count_not_after(before: &HappensBefore, places: &[usize], place: usize, near: usize) -> usize
     requires { AreInSequenceAt before.now places.now }
     ensures { AreParted (λ o. IsNotBeforeAt before.now place o) (λ o. IsBeforeAt before.now place o) places.now result }
 {
@@ -80,7 +83,7 @@ fn count_not_after(before: &HappensBefore, places: &[usize], place: usize) -> us
         places,
         place,
     };
-    turn_of(&row, places.len())
+    turn_near(&row, places.len(), near)
 }
 
 /// How many of the places, a prefix of them, are before another place.
@@ -111,11 +114,12 @@ fn part_of(
     let candidate = before.candidate();
     let _log = candidate.log();
     let places = class.places.as_slice();
-    let low = count_before(before, places, place);
+    let here = count_below(places, place);
+    let low = count_before(before, places, place, here);
     if event.writes() {
-        (low, count_below(places, place))
+        (low, here)
     } else {
-        (low, count_not_after(before, places, place))
+        (low, count_not_after(before, places, place, here))
     }
 }
 
@@ -143,7 +147,10 @@ pub(crate) fn group_with(
     let candidate = before.candidate();
     let _log = candidate.log();
     let kind = class.kind;
-    if address != u64::from(event.address.max(kind.range.address)) || !is_weak_with(event, kind) {
+    if address != u64::from(event.address.max(kind.range.address))
+        || kind.thread == event.thread
+        || !is_weak_with(event, kind)
+    {
         return None;
     }
     let (low, high) = part_of(before, event, place, address, class);

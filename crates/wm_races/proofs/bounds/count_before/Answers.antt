@@ -1,4 +1,4 @@
-use Rattle.std.proofs.Common.{get_or, slice_get, arith}
+use Rattle.std.proofs.Common.{get_or, arith}
 use Rattle.std.proofs.lemmas.Option.{slice_get-get_or}
 use Rattle.wm_event.specs.declared.event.EventId.TheVariants.{Init}
 use Rattle.wm_event.specs.LoggedRun.{execution}

@@ -1,4 +1,4 @@
-use Rattle.std.proofs.Common.{◌≡◌, ◌+◌, ◌*◌, ◌≤◌, ℕ, ◌++◌, List, Some, length, get_or, slice_get, sym, ap, subst, ◌∙◌, rules, arith}
+use Rattle.std.proofs.Common.{◌≡◌, ◌+◌, ◌*◌, ◌≤◌, ℕ, ◌++◌, Some, length, get_or, slice_get, sym, ap, subst, ◌∙◌, rules, arith}
 use Rattle.std.specs.Prelude.{sum_by}
 use Rattle.std.proofs.lemmas.List.Sums.{sum_by-append}
 use Rattle.std.proofs.lemmas.Option.{slice_get-get_or}
@@ -10,7 +10,6 @@ use Rattle.wm_event.specs.LoggedRun.{LoggedRun}
 use Rattle.wm_event.specs.Shape.{IsWellShaped, ListsEachOnce}
 use Rattle.wm_hb.proofs.ThreadLemmas.{named_so}
 use Rattle.wm_races.specs.Groups.{AreGroupsOf, IsAtByte, size_of}
-use Rattle.wm_races.specs.declared.group.Group.{Group}
 use Rattle.wm_races.proofs.GroupLemmas.{few_groups}
 use Rattle.wm_races.proofs.ScanLemmas.{IsBelowByte, byte_done, byte_init, byte_more, few_bytes}
 use Rattle.wm_races.proofs.groups.groups_of.Goals as goal
@@ -60,11 +59,11 @@ loop-byte-preserved c sites has =
     let offset = c.from-in-loop-byte.ensures in
     let address : a ≡ e.address + c.loop-byte.byte = omega (arith, first, offset) in
     let more = byte_more run sites j a c.loop-byte.groups c.match-at.found.items (subst (λ (b : ℕ). AreGroupsOf run sites (IsBelowByte run j b) c.loop-byte.groups) (sym address) before.0) found in
-    let is : c.append.new.groups ≡ c.loop-byte.groups ++ c.match-at.found.items = c.in_ok-append.ensures ∙ ap (λ (gs : List Group). c.loop-byte.groups ++ gs) c.as_slice-in-loop-byte.ensures.value in
+    let is : c.in_ok-groups.groups ≡ c.loop-byte.groups ++ c.match-at.found.items = c.in_ok-groups.ensures in
     let next : a + 1 ≡ e.address + (c.loop-byte.byte + 1) = omega (arith, address) in
     let size = ap (sum_by size_of) is ∙ sum_by-append size_of c.loop-byte.groups c.match-at.found.items in
     let old = before.1 in (
-      subst (λ (b : ℕ). AreGroupsOf run sites (IsBelowByte run j b) c.append.new.groups) next (subst (AreGroupsOf run sites (IsBelowByte run j (a + 1))) (sym is) more),
+      subst (λ (b : ℕ). AreGroupsOf run sites (IsBelowByte run j b) c.in_ok-groups.groups) next (subst (AreGroupsOf run sites (IsBelowByte run j (a + 1))) (sym is) more),
       omega (arith, few, size, old),
     )
 

@@ -5,10 +5,10 @@ use Rattle.wm_event.specs.declared.event.EventKey.{EventKey}
 use Rattle.wm_event.specs.LoggedRun.{LoggedRun}
 use Rattle.wm_event.specs.Shape.{IsWellShaped}
 use Rattle.wm_races.specs.Parts.{IsGroupOf, IsPairWith}
-use Rattle.wm_races.proofs.ClassLemmas.{group_some, none_first, none_inside, none_weak}
+use Rattle.wm_races.proofs.ClassLemmas.{group_some, none_first, none_inside, none_own, none_weak}
 use Rattle.wm_races.proofs.ListLemmas.{none_some}
 use Rattle.wm_races.proofs.part.group_with.Goals as goal
-use Rattle.wm_races.proofs.part.group_with.Goals.{then-address-from-via-then-address-from, then-address-from-via-else-address-from+then-not-is_weak_with}
+use Rattle.wm_races.proofs.part.group_with.Goals.{then-address-from-via-then-address-from, then-address-from-via-else-address-from+then-kind-event, then-address-from-via-else-address-from+else-kind-event+then-not-is_weak_with}
 
 pub returns-then-address-from : goal.returns-then-address-from
 returns-then-address-from c =
@@ -18,7 +18,10 @@ returns-then-address-from c =
       | then-address-from-via-then-address-from w ↦
           none_first run shape.order shape.keys c.candidate-candidate.ensures.agrees c.args.address c.args.class.now c.requires.class c.args.event.now c.args.place c.requires.listed c.requires.place
           (λ e. w.if-address-from.true (e ∙ sym c.max.ensures ∙ sym c.from.ensures))
-      | then-address-from-via-else-address-from+then-not-is_weak_with w ↦
+      | then-address-from-via-else-address-from+then-kind-event w ↦
+          none_own run shape.order shape.keys c.candidate-candidate.ensures.agrees c.args.address c.args.class.now c.requires.class c.args.event.now c.args.place c.requires.listed c.requires.place
+          w.if-kind-event.true
+      | then-address-from-via-else-address-from+else-kind-event+then-not-is_weak_with w ↦
           none_weak run shape.order shape.keys c.candidate-candidate.ensures.agrees c.args.address c.args.class.now c.requires.class c.args.event.now c.args.place c.requires.listed c.requires.place
           (λ weak. false≢true (sym w.if-not-is_weak_with.true ∙ w.is_weak_with.ensures.1 weak))
     ]

@@ -13,7 +13,7 @@ sequence c = subst (AreInSequenceAt c.args.before.now) (sym c.as_slice-places.en
     (class_sequence c.args.before.now (shape c).order (shape c).keys c.candidate-candidate.ensures.agrees c.args.address c.args.class.now c.requires.class)
 
 pub count_before-low-requires : goal.count_before-low-requires
-count_before-low-requires c = sequence c
+count_before-low-requires c = sequence (goal.at.count_before-low-requires c).After-as_slice-places
 
 pub count_not_after-requires : goal.count_not_after-requires
 count_not_after-requires c = sequence (goal.at.count_not_after-requires c).After-as_slice-places
@@ -24,9 +24,9 @@ returns-then-writes c =
     let run = c.args.before.now in
     let j = c.args.place in
     let first = subst (λ (os : List ℕ). AreParted (λ o. IsBeforeAt run o j) (λ o. IsNotBeforeAt run o j) os c.count_before-low.result) c.as_slice-places.ensures c.count_before-low.ensures in
-    let last = subst (λ (os : List ℕ). AreParted (λ o. o < j) (λ o. j ≤ o) os c.count_below.result) c.as_slice-places.ensures c.count_below.ensures in
+    let last = subst (λ (os : List ℕ). AreParted (λ o. o < j) (λ o. j ≤ o) os c.count_below-here.result) c.as_slice-places.ensures c.count_below-here.ensures in
     part_write run (shape a).order (shape a).keys c.candidate-candidate.ensures.agrees c.args.address c.args.class.now c.requires.class c.args.event.now j c.requires.listed c.requires.place
-    c.count_before-low.result c.count_below.result (sym c.writes.ensures ∙ c.if-writes.true) first last
+    c.count_before-low.result c.count_below-here.result (sym c.writes.ensures ∙ c.if-writes.true) first last
 
 pub returns-else-writes : goal.returns-else-writes
 returns-else-writes c =
