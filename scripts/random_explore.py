@@ -67,7 +67,7 @@ class Case:
 
     def wanted(self, bound: str | None) -> set[Ends]:
         """What has to be listed: if a bound was met, what has an execution within it."""
-        if bound in ("graphs", "nodes"):
+        if bound == "graphs":
             return set()
         return {
             ends
@@ -167,6 +167,7 @@ def compare(wmlab: str, case: Case, path: str) -> None:
     out, err, status = harness.run(wmlab, case.words("explore", path))
     expect(not err, f"explore: {err}")
     found = listed(out, status)
+    expect(found.bound != "nodes", f"a search gave up: {out}")
     missing = case.wanted(found.bound) - set(found.outcomes)
     expect(not missing, f"not listed: {sorted(missing)} in {out}")
     documents, err, again = harness.run(wmlab, case.words("witnesses", path))
