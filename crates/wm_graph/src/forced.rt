@@ -98,12 +98,23 @@ fn writer_beside(
 fn reads_one_of(candidate: &Candidate, reader: EventKey, writer: EventKey, other: EventKey) -> bool
     ensures { IsTrue result → ReadsOneOf candidate.now reader (At writer) other }
 {
+    let writer = EventId::At(writer);
     for byte in 0..MAX_BYTES {
-        if writer_beside(candidate, reader, byte, other) == Some(EventId::At(writer)) {
+        if is_writer(candidate, reader, byte, writer)
+            && writer_beside(candidate, reader, byte, other) == Some(writer)
+        {
             return true;
         }
     }
     false
+}
+
+/// Whether an event writes.
+fn is_write(candidate: &Candidate, key: EventKey) -> bool {
+    match candidate.event(EventId::At(key)) {
+        Some(event) => event.writes(),
+        None => false,
+    }
 }
 
 /// Whether a write comes before another one, from which an event after the first one reads a byte of it.
@@ -114,8 +125,11 @@ fn is_overwritten(candidate: &Candidate, ways: &Ways, from: EventKey, to: EventK
     if from == to {
         return false;
     }
+    if !is_write(candidate, from) || !is_write(candidate, to) {
+        return false;
+    }
     for reader in candidate.witness().order.as_slice() {
-        if reads_one_of(candidate, *reader, to, from) && is_before(candidate, ways, from, *reader) {
+        if is_before(candidate, ways, from, *reader) && reads_one_of(candidate, *reader, to, from) {
             return true;
         }
     }
