@@ -1,5 +1,5 @@
-"""Pictures of small executions, as SVG: what `wmlab graph` shows of a log, with names of locations, a title in words and
-a legend."""
+"""Pictures of small executions, as SVG: what `wmlab graph` shows of a log, with names of locations, a title in words
+and a legend."""
 import html
 import itertools
 import re
