@@ -17,6 +17,8 @@ pub(crate) struct Report {
     index: IndexSet<SitePair>,
     /// The line that counted the group before.
     last: usize,
+    /// For each line the one that came after it before: where a loop races, it mostly comes again.
+    followers: List<usize>,
 }
 
 impl Report {
@@ -29,6 +31,7 @@ impl Report {
             lines: List::new(alloc),
             index: IndexSet::new(alloc),
             last: 0,
+            followers: List::new(alloc),
         }
     }
 
@@ -92,6 +95,47 @@ impl Report {
         Ok(())
     }
 
+    /// Goes on to the line that came after the last one before, if it is the line of two sites. Only the time depends on
+    /// it.
+    fn follow(&mut self, sites: SitePair)
+        requires gathered { IsGathered self.old }
+        ensures gathered { IsGathered self.new }
+        ensures lines { self.new.lines ≡ self.old.lines }
+    {
+        let next = self.followers.get(self.last).copied().unwrap_or(0);
+        if !self.is_line_of(self.last, sites) && self.is_line_of(next, sites) {
+            self.last = next;
+        }
+    }
+
+    /// Notes that the last line came after another one. Only the time depends on it.
+    fn note_follower(&mut self, line: usize) -> Result<(), AllocError>
+        requires gathered { IsGathered self.old }
+        ensures gathered { IsGathered self.new }
+        ensures lines { self.new.lines ≡ self.old.lines }
+    {
+        if self.followers.len() < self.lines.len() {
+            self.followers.push(0)?;
+        }
+        if line < self.followers.len() {
+            self.followers.set(line, self.last);
+        }
+        Ok(())
+    }
+
+    /// Adds a group of pairs between two sites, whose line may be the one that came after the last one before.
+    fn add_next(&mut self, sites: SitePair, group: Group) -> Result<(), AllocError>
+        requires gathered { IsGathered self.old }
+        requires room { sum_by count_of self.old.lines + group.count < 2 ^ 64 }
+        ensures gathered { OnOk result (IsGathered self.new) }
+        ensures adds { OnOk result (AddsGroup sites group self.old.lines self.new.lines) }
+    {
+        let last = self.last;
+        self.follow(sites);
+        self.add(sites, group)?;
+        self.note_follower(last)
+    }
+
     /// Adds groups in their order.
     pub fn add_all(&mut self, sites: &[List<Site>], groups: &[Group]) -> Result<(), AllocError>
         requires gathered { IsGathered self.old }
@@ -106,7 +150,7 @@ impl Report {
                 site: site_of(sites, group.pair.event),
                 other: site_of(sites, group.pair.write),
             };
-            self.add(between, *group)?;
+            self.add_next(between, *group)?;
         }
         Ok(())
     }

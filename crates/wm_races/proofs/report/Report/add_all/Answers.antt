@@ -21,8 +21,8 @@ site_of-requires-in-loop-group c =
     let inside : c.loop-group.group-index < length c.args.groups.now = omega arith in
     (c.requires.sites c.loop-group.group-index (get_or c.args.groups.now c.loop-group.group-index nobody) (slice_get-get_or c.args.groups.now c.loop-group.group-index nobody inside)).1
 
-pub add-requires-clause-room : goal.add-requires-clause-room
-add-requires-clause-room c =
+pub add_next-requires-clause-room : goal.add_next-requires-clause-room
+add_next-requires-clause-room c =
     let i = c.loop-group.group-index in
     let inside : i < length c.args.groups.now = omega arith in
     let before = c.loop-group.invariant.total in
@@ -41,13 +41,13 @@ loop-group-preserved c =
     let s = c.site_of.ensures in
     let t = c.site_of-in-loop-group.ensures in
     let between : record { site = c.site_of.result; other = c.site_of-in-loop-group.result } ≡ pair_sites sites q.pair = (λ j. record { site = s j; other = t j }) in
-    let adds : AddsGroup (pair_sites sites q.pair) q c.loop-group.self.lines c.add.new.self.lines = subst (λ (b : SitePair). AddsGroup b q c.loop-group.self.lines c.add.new.self.lines) between c.in_ok-add.ensures.adds in
-    let total = added-total (pair_sites sites q.pair) q c.loop-group.self.lines c.add.new.self.lines adds in
+    let adds : AddsGroup (pair_sites sites q.pair) q c.loop-group.self.lines c.add_next.new.self.lines = subst (λ (b : SitePair). AddsGroup b q c.loop-group.self.lines c.add_next.new.self.lines) between c.in_ok-add_next.ensures.adds in
+    let total = added-total (pair_sites sites q.pair) q c.loop-group.self.lines c.add_next.new.self.lines adds in
     let before = c.loop-group.invariant.total in
     let size = ap (sum_by size_of) more ∙ sum_by_push size_of (take i groups) q in
     record {
-      gathered = c.in_ok-add.ensures.gathered;
-      report = λ earlier is. subst (λ (gs : List Group). IsGroupReport sites gs c.add.new.self.lines) (append_assoc earlier (take i groups) (q ∷ []) ∙ ap (λ (gs : List Group). earlier ++ gs) (sym more))
-          (added sites (earlier ++ take i groups) q c.loop-group.self.lines c.add.new.self.lines adds (c.loop-group.invariant.report earlier is));
+      gathered = c.in_ok-add_next.ensures.gathered;
+      report = λ earlier is. subst (λ (gs : List Group). IsGroupReport sites gs c.add_next.new.self.lines) (append_assoc earlier (take i groups) (q ∷ []) ∙ ap (λ (gs : List Group). earlier ++ gs) (sym more))
+          (added sites (earlier ++ take i groups) q c.loop-group.self.lines c.add_next.new.self.lines adds (c.loop-group.invariant.report earlier is));
       total = omega (arith, total, before, size);
     }
