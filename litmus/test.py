@@ -5,6 +5,7 @@
     litmus/test.py --all       each test of the suite
     litmus/test.py --plain     what asks no program
 """
+import json
 import os
 import shutil
 import subprocess
@@ -359,6 +360,24 @@ def test_tools(tally, words_of_gallery, room):
     rows = [line for line in page.splitlines() if line.startswith("| `SB")]
     holds = status == 2 and "node is left out: " in err and "no engine ran the tests" in err and ": none." in page
     tally.check(holds and len(rows) >= 2, "the gallery's verdicts are kept if each engine fails", page + err)
+    test_kept_tables(tally, words_of_gallery, tools, room)
+
+
+def test_kept_tables(tally, words_of_gallery, tools, room):
+    """The tables that an engine finished before it failed are kept."""
+    result = {"name": "SB", "iterations": 5, "milliseconds": 1, "tuples": [[["0", "1"], 5]], "others": 0}
+    lines = ({"engine": "Fake"}, {"result": {**result, "pinned": 0, "pinProblem": None}})
+    said = "".join(f"echo '{json.dumps(line)}'\n" for line in lines)
+    commands.write(os.path.join(tools, "node"), f"#!/bin/sh\n{said}exit 1\n")
+    command = [os.path.join(HERE, "gallery"), *words_of_gallery, "--out", "-"]
+    err = harness.run(command[0], command[1:], env={**os.environ, "PATH": tools}, cwd=room)[1]
+    kept = os.path.join(room, "gallery-node.jsonl")
+    tables = []
+    if os.path.isfile(kept):
+        with open(kept, encoding="utf-8") as file:
+            tables = [json.loads(line)["name"] for line in file]
+    holds = tables == ["SB"] and "gallery-node.jsonl has 1 tables" in err
+    tally.check(holds, "the tables of an engine that failed later are kept", (tables, err))
 
 
 def test_finds(tally, tests):

@@ -4,7 +4,7 @@ import os
 import subprocess
 import tempfile
 from collections import Counter
-from collections.abc import Iterable, Sequence
+from collections.abc import Callable, Iterable, Sequence
 from dataclasses import dataclass, field
 from typing import Any
 
@@ -168,13 +168,34 @@ def take_runs(rows: Sequence[Row], engine: str, lines: Iterable[str]) -> str:
     return version
 
 
-def engine_runs(rows: Sequence[Row], program: str, engine: str, iterations: int) -> str:
+def kept_lines(engine: str, lines: list[str]) -> str:
+    """Keeps the tables of an engine that failed later, in the folder that the command was started in. Answers how they
+    are used."""
+    if not lines:
+        return ""
+    path = f"gallery-{engine}.jsonl"
+    with open(path, "w", encoding="utf-8") as file:
+        file.writelines(lines)
+    return f"; {path} has {len(lines)} tables: append the others, and give --columns --seen {engine}={path}"
+
+
+def engine_runs(
+    rows: Sequence[Row], program: str, engine: str, iterations: int, tell: Callable[[str], None]
+) -> str:
     """Has an engine run each test so many times by litmus/run. Answers its version."""
     command = [RUN_COMMAND, "--json", "--engine", engine, "--iterations", str(iterations), "--wmlab", program]
-    with tempfile.TemporaryDirectory() as folder:
+    lines: list[str] = []
+    with tempfile.TemporaryDirectory() as folder, tempfile.TemporaryFile("w+") as errors:
         words = [*command, "--found", folder, *(row.test.name for row in rows)]
-        ran = subprocess.run(words, stdout=subprocess.PIPE, stderr=subprocess.PIPE, text=True, check=False)
-    if ran.returncode not in (0, 1):
-        last = (ran.stderr.strip().splitlines() or [f"status {ran.returncode}"])[-1]
-        raise Failed(f"litmus/run: {last.removeprefix('run: ')}")
-    return take_runs(rows, engine, ran.stdout.splitlines())
+        with subprocess.Popen(words, stdout=subprocess.PIPE, stderr=errors, text=True) as running:
+            assert running.stdout
+            for line in running.stdout:
+                lines.append(line)
+                if len(lines) % 100 == 0:
+                    tell(f"{engine}: {len(lines)} of {len(rows)} tests")
+        errors.seek(0)
+        said = errors.read().strip().splitlines()
+    if running.returncode not in (0, 1):
+        last = (said or [f"status {running.returncode}"])[-1]
+        raise Failed(f"litmus/run: {last.removeprefix('run: ')}{kept_lines(engine, lines)}")
+    return take_runs(rows, engine, lines)
