@@ -113,11 +113,11 @@ def test_kept(tally: Tally, program: str, room: str) -> None:
     """Verdicts are kept; a folder that cannot be written is told once, and changes no verdict."""
     notes: list[str] = []
     buffering = specimen_of(suite()["SB+sc"])
-    for folder in (os.path.join(room, "kept"), "/proc/none"):
+    for folder in (os.path.join(room, "kept-verdicts"), "/proc/none"):
         kept = Cache(folder, program, notes.append)
         got = [Decisions(buffering, kept).of((0, 0)).kind for _ in range(2)]
         tally.check(got == [FORBIDDEN, FORBIDDEN], f"verdicts with the folder {folder}", got)
-    files = os.listdir(os.path.join(room, "kept"))
+    files = os.listdir(os.path.join(room, "kept-verdicts"))
     holds = len(files) == 2 and len(notes) == 1 and notes[0].startswith("verdicts are not kept: /proc/none: ")
     tally.check(holds, "a folder that cannot be written is told once", (files, notes))
 

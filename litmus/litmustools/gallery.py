@@ -4,7 +4,7 @@ import os
 import subprocess
 import tempfile
 from collections import Counter
-from collections.abc import Callable, Iterable, Sequence
+from collections.abc import Callable, Iterable, Mapping, Sequence
 from dataclasses import dataclass, field
 from typing import Any
 
@@ -156,15 +156,33 @@ def seen_of(row: Row, run: dict[str, Any]) -> Seen:
     return Seen({row.test.outcome: run["positive"]}, dict(verdicts), run["iterations"])
 
 
-def take_runs(rows: Sequence[Row], engine: str, lines: Iterable[str]) -> str:
-    """Gives the rows what an engine's lines of `litmus/run --json` tell. Answers its version."""
-    runs = {run["name"]: run for run in map(json.loads, lines)}
+# What a line of `litmus/run --json` tells, of all that is read here.
+KEYS = frozenset(("name", "engine", "positive", "iterations", "states"))
+
+
+def runs_of(engine: str, lines: Iterable[str]) -> dict[str, dict[str, Any]]:
+    """An engine's lines of `litmus/run --json` by the names of their tests, the last one of a name."""
+    found = {}
+    for number, line in enumerate(lines, 1):
+        try:
+            run = json.loads(line)
+        except ValueError:
+            run = None
+        if not isinstance(run, dict) or not KEYS <= run.keys():
+            raise Failed(f"{engine}: line {number} is none of litmus/run --json: {line.strip()[:60]}")
+        found[run["name"]] = run
+    return found
+
+
+def take_runs(rows: Sequence[Row], engine: str, runs: Mapping[str, dict[str, Any]]) -> str:
+    """Gives the rows what an engine's runs tell. Answers its version."""
     missing = [row.test.name for row in rows if row.test.name not in runs]
     if missing:
-        raise Failed(f"{engine} did not run {missing[0]} and {len(missing) - 1} other tests")
+        others = f" and {len(missing) - 1} other tests" if missing[1:] else ""
+        raise Failed(f"{engine} did not run {missing[0]}{others}")
     for row in rows:
         row.engines[engine] = seen_of(row, runs[row.test.name])
-    version: str = next(iter(runs.values()))["engine"]
+    version: str = runs[rows[0].test.name]["engine"]
     return version
 
 
@@ -198,4 +216,4 @@ def engine_runs(
     if running.returncode not in (0, 1):
         last = (said or [f"status {running.returncode}"])[-1]
         raise Failed(f"litmus/run: {last.removeprefix('run: ')}{kept_lines(engine, lines)}")
-    return take_runs(rows, engine, lines)
+    return take_runs(rows, engine, runs_of(engine, lines))
