@@ -370,9 +370,9 @@ def test_tools(tally, words_of_gallery, room):
 
 def test_kept_tables(tally, words_of_gallery, tools, room):
     """The tables that an engine finished before it failed are kept."""
-    result = {"name": "SB", "iterations": 5, "milliseconds": 1, "tuples": [[["0", "1"], 5]], "others": 0}
-    lines = ({"engine": "Fake"}, {"result": {**result, "pinned": 0, "pinProblem": None}})
-    said = "".join(f"echo '{json.dumps(line)}'\n" for line in lines)
+    counts = '"iterations":5,"milliseconds":1,"tuples":[[["0","1"],5]],"others":0'
+    lines = ('{"engine":"Fake"}', f'{{"result":{{"name":"SB",{counts},"pinned":0,"pinProblem":null}}}}')
+    said = "".join(f"echo '{line}'\n" for line in lines)
     commands.write(os.path.join(tools, "node"), f"#!/bin/sh\n{said}exit 1\n")
     command = [os.path.join(HERE, "gallery"), *words_of_gallery, "--out", "-"]
     err = harness.run(command[0], command[1:], env={**os.environ, "PATH": tools}, cwd=room)[1]
