@@ -1,5 +1,5 @@
-"""Pictures of small executions, as SVG: what `wmlab graph` shows of a log, with names of locations, a title in words and a
-legend."""
+"""Pictures of small executions, as SVG: what `wmlab graph` shows of a log, with names of locations, a title in words
+and a legend."""
 import html
 import itertools
 import re
@@ -45,8 +45,8 @@ class NotDrawn(Exception):
 
 @dataclass(frozen=True)
 class Shown:
-    """What `wmlab graph` shows of a log: its title, the threads, the instructions of events, what is at fault, and which
-    arrows are wide: those of a cycle, and the red ones."""
+    """What `wmlab graph` shows of a log: its title, the threads, the instructions of events, what is at fault, and
+    which arrows are wide: those of a cycle, and the red ones."""
 
     verdict: str
     threads: list[str]

@@ -1,8 +1,8 @@
 """Whether an execution is sequentially consistent, by trying each order of the writes of each location.
 
-In an order of the writes, a write is overwritten by a later one (coherence, `co`), and a read takes its bytes from before
-a write that overwrites them (from-read, `fr`). The execution is sequentially consistent if, for some order, these have no
-cycle with program order and reads-from.
+In an order of the writes, a write is overwritten by a later one (coherence, `co`), and a read takes its bytes from
+before a write that overwrites them (from-read, `fr`). The execution is sequentially consistent if, for some order,
+these have no cycle with program order and reads-from.
 """
 import graphlib
 import itertools
@@ -55,7 +55,7 @@ def is_sequential(execution: Execution) -> bool | None:
     if math.prod(math.factorial(len(group)) for group in groups) > MOST_ORDERS:
         return None
     fixed = [(edge.source, edge.target) for edge in (*execution.program_order(), *execution.reads_from())]
-    orders = itertools.product(*map(itertools.permutations, groups))
+    orders = itertools.product(*(itertools.permutations(group) for group in groups))
     return any(
         not has_cycle(itertools.chain(fixed, *(conflicts(execution, order) for order in chosen))) for chosen in orders
     )

@@ -1,5 +1,5 @@
 -- What comes first in each order in which a run is sequential.
-use Rattle.std.proofs.Common.{◌≡◌, ◌≢◌, ◌⊎◌, ◌+◌, ◌<◌, ◌≤◌, ℕ, List, [], ◌∷◌, ◌++◌, All, IsSome, Option, None, Some, IfSome, OnSome, ap, arith, length, inl, inr, refl, subst, sym, ◌∙◌}
+use Rattle.std.proofs.Common.{◌≡◌, ◌≢◌, ◌⊎◌, ◌+◌, ◌<◌, ◌≤◌, ℕ, List, [], ◌∷◌, ◌++◌, IsSome, Option, None, Some, IfSome, OnSome, ap, arith, length, inl, inr, refl, subst, sym, ◌∙◌}
 use Rattle.std.proofs.lemmas.Bool.{cases_order}
 use Rattle.std.proofs.lemmas.List.Elements.{recursion_from_All}
 use Rattle.std.specs.List.{AllByRecursion}
@@ -13,7 +13,7 @@ use Rattle.wm_event.specs.declared.event.EventId.{EventId}
 use Rattle.wm_event.specs.declared.event.EventId.TheVariants.{Init, At}
 use Rattle.wm_event.specs.declared.event.EventKey.{EventKey}
 use Rattle.wm_graph.specs.Cycle.{ComesBefore, IsCycle, IsCycleEdge, IsWay, Leads, ReadsOneOf}
-use Rattle.wm_graph.specs.Sequential.{IsForced, IsLastWrite, IsSequential, IsSequentialInNoOrder, placed}
+use Rattle.wm_graph.specs.Sequential.{IsForced, IsSequential, IsSequentialInNoOrder, placed}
 use Rattle.wm_graph.specs.declared.cycle_edge.CycleEdge.{CycleEdge}
 use Rattle.wm_graph.specs.declared.cycle_edge.CycleKind.TheVariants.{Coherence, FromRead, ReadsFrom as ReadsByte}
 use Rattle.wm_graph.specs.declared.ways.Way.{Way}
