@@ -5,6 +5,7 @@
     litmus/test.py --all       each test of the suite
     litmus/test.py --plain     what asks no program
 """
+import json
 import os
 import shutil
 import subprocess
@@ -296,6 +297,11 @@ def test_refusals(tally, room):
         ("litmus/README.md: it changes nothing", "wrong-judges", "litmus/README.md"),
         ("/nowhere: this is not a program", "candidates", "--wmlab", "/nowhere", "SB"),
         ("/nowhere: this is not a program", "gallery", "--test", "SB", "--wmlab", "/nowhere"),
+        ("--columns takes --seen ENGINE=FILE", "gallery", "--columns"),
+        ("--columns takes --seen ENGINE=FILE", "gallery", "--columns", "--engine", "node"),
+        ("--seen node: expected ENGINE=FILE", "gallery", "--columns", "--seen", "node"),
+        ("node: line 1 is none of litmus/run --json: ", "gallery", "--test", "SB", "--seen", f"node={__file__}"),
+        ("/proc/none: No such file", "gallery", "--test", "SB", "--seen", "node=/dev/full", "--out", "/proc/none"),
         ("/nowhere: this is not a program", "test.py", "--wmlab", "/nowhere"),
         (f"{room}: this is not a program", "test.py", "--wmlab", room),
         ("/bin/true: this program has no command stream", "test.py", "--wmlab", "/bin/true"),
@@ -360,6 +366,24 @@ def test_tools(tally, words_of_gallery, room):
     rows = [line for line in page.splitlines() if line.startswith("| `SB")]
     holds = status == 2 and "node is left out: " in err and "no engine ran the tests" in err and ": none." in page
     tally.check(holds and len(rows) >= 2, "the gallery's verdicts are kept if each engine fails", page + err)
+    test_kept_tables(tally, words_of_gallery, tools, room)
+
+
+def test_kept_tables(tally, words_of_gallery, tools, room):
+    """The tables that an engine finished before it failed are kept."""
+    counts = '"iterations":5,"milliseconds":1,"tuples":[[["0","1"],5]],"others":0'
+    lines = ('{"engine":"Fake"}', f'{{"result":{{"name":"SB",{counts},"pinned":0,"pinProblem":null}}}}')
+    said = "".join(f"echo '{line}'\n" for line in lines)
+    commands.write(os.path.join(tools, "node"), f"#!/bin/sh\n{said}exit 1\n")
+    command = [os.path.join(HERE, "gallery"), *words_of_gallery, "--out", "-"]
+    err = harness.run(command[0], command[1:], env={**os.environ, "PATH": tools}, cwd=room)[1]
+    kept = os.path.join(room, "gallery-node.jsonl")
+    tables = []
+    if os.path.isfile(kept):
+        with open(kept, encoding="utf-8") as file:
+            tables = [json.loads(line)["name"] for line in file]
+    holds = tables == ["SB"] and "gallery-node.jsonl has 1 tables" in err
+    tally.check(holds, "the tables of an engine that failed later are kept", (tables, err))
 
 
 def test_finds(tally, tests):

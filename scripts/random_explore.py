@@ -8,7 +8,7 @@ branches on what was read, loops of at most two turns, and loops that wait by lo
 (`wmlabtools/causal.py`) makes the accesses one after the other in each way, each byte read from any that was left
 there, and asks the memory model (`wmlabtools/model.py`) for an order. Each outcome that it finds has to be listed; of
 half of the modules, within a few events of a thread. Each document of `witnesses` has to have the outcome of its line,
-to be allowed by the model and by `wmlab check`, and to be a run of the threads.
+to be allowed by the model and by `wmlab check`, to be causal, and to be a run of the threads.
 
 A module that shows a difference is kept in a folder. The last line is `N passed, N failed`.
 """
@@ -67,7 +67,7 @@ class Case:
 
     def wanted(self, bound: str | None) -> set[Ends]:
         """What has to be listed: if a bound was met, what has an execution within it."""
-        if bound in ("graphs", "nodes"):
+        if bound == "graphs":
             return set()
         return {
             ends
@@ -129,6 +129,23 @@ def expect_run(function: Function, logged: Sequence[Any], events: Sequence[model
     expect(end == end_text(logged[2]), f"the thread {logged} comes to {end}")
 
 
+def is_causal(execution: model.Execution) -> bool:
+    """Whether the events have an order in which each comes after its writers and those before it in its thread."""
+    left = list(execution.events)
+    while left:
+        waiting = set(left)
+        ready = [
+            event
+            for event in left
+            if not any(other.thread == event.thread and other.number < event.number for other in left)
+            and not (event.kind in "rx" and waiting.intersection(event.writers))
+        ]
+        if not ready:
+            return False
+        left = [event for event in left if event not in ready]
+    return True
+
+
 def expect_document(case: Case, ends: Ends, line: str) -> None:
     """A document is an allowed execution with these ends."""
     try:
@@ -137,6 +154,7 @@ def expect_document(case: Case, ends: Ends, line: str) -> None:
     except (ValueError, IndexError, TypeError) as error:
         raise Difference(f"not a log: {error}: {line}") from error
     expect(tuple(end_text(thread[2]) for thread in threads) == ends, f"the document has other ends: {line}")
+    expect(is_causal(execution), f"program order with reads-from has a cycle: {line}")
     broken = execution.first_faults()
     expect(broken is None, f"the model refuses a document: {broken and broken[0]} of {line}")
     for number, (function, logged) in enumerate(zip(case.functions, threads, strict=True)):
@@ -149,6 +167,7 @@ def compare(wmlab: str, case: Case, path: str) -> None:
     out, err, status = harness.run(wmlab, case.words("explore", path))
     expect(not err, f"explore: {err}")
     found = listed(out, status)
+    expect(found.bound != "nodes", f"a search gave up: {out}")
     missing = case.wanted(found.bound) - set(found.outcomes)
     expect(not missing, f"not listed: {sorted(missing)} in {out}")
     documents, err, again = harness.run(wmlab, case.words("witnesses", path))

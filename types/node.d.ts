@@ -141,7 +141,7 @@ declare module 'node:v8' {
 }
 
 declare module 'node:timers/promises' {
-  export function setTimeout<T = void>(milliseconds?: number, value?: T, options?: { ref?: boolean }): Promise<T>;
+  export function setTimeout<T = void>(milliseconds?: number, value?: T, options?: { ref?: boolean, signal?: AbortSignal }): Promise<T>;
 }
 
 declare module 'node:stream/consumers' {

@@ -49,13 +49,15 @@ def state_row(row: Row, state: Row) -> str:
 
 
 def test_part(row: Row) -> str:
-    unseen = len(row["permitted"]) - sum(state["verdict"] == "permitted" for state in row["states"])
+    seen = [state["values"] for state in row["states"]]
+    unseen = sum(values not in seen for values in row["permitted"])
+    least = "" if row.get("complete", True) else "at least "
     is_bad = any(state["verdict"] != "permitted" for state in row["states"])
     head = f'{row["name"]}: {row["positive"]:,} of {row["iterations"]:,}'
     return (
         f'<details{" open" if is_bad else ""}><summary><code>{html.escape(head)}</code></summary>'
         f'<p>{html.escape(row["origin"])}; {html.escape(row["condition"] or "no condition")}; '
-        f'{max(unseen, 0)} more outcomes are permitted and were not seen.</p>'
+        f'{least}{unseen} more outcomes are permitted and were not seen.</p>'
         f'<table>{"".join(state_row(row, state) for state in row["states"])}</table></details>'
     )
 

@@ -45,9 +45,9 @@ function findWebKit() {
 
 /** How each browser is found, and what has to be installed. */
 const BROWSERS = {
-  chromium: { find: () => firstOf(['chromium', 'chromium-browser', 'google-chrome']), needs: 'chromium' },
-  firefox: { find: () => firstOf(['firefox-esr', 'firefox']), needs: 'firefox-esr or firefox' },
-  webkit: { find: findWebKit, needs: 'the MiniBrowser of libwebkit2gtk-4.1-0, and Xvfb' },
+  chromium: { find: () => firstOf(['chromium', 'chromium-browser', 'google-chrome']), needs: 'Chromium (Debian: chromium)' },
+  firefox: { find: () => firstOf(['firefox-esr', 'firefox']), needs: 'Firefox (Debian: firefox-esr)' },
+  webkit: { find: findWebKit, needs: "WebKitGTK's MiniBrowser and Xvfb (Debian: libwebkit2gtk-4.1-0 xvfb)" },
 };
 
 /** The program of a browser and its version; null if it is not installed. */

@@ -5,9 +5,12 @@ import { randomUUID } from 'node:crypto';
 import { setTimeout as after } from 'node:timers/promises';
 import { openPage, requireBrowser } from '../../engines/browser/launch.mjs';
 import { serve } from '../../engines/browser/server.mjs';
+import { UserError } from '../../engines/shared/errors.mjs';
 import { Pins, workersOf } from './pinning.mjs';
 
 const SECONDS_TO_OPEN = 90;
+/** How long a page that runs a test may say nothing: longer than a batch, after which it tells how far it is. */
+const SECONDS_OF_SILENCE = 60;
 /** How long the threads of new workers may take to be seen by the system, in milliseconds. */
 const MILLISECONDS_TO_APPEAR = 3000;
 
@@ -36,6 +39,7 @@ class BrowserHarness {
     this.token = randomUUID();
     this.pins = new Pins(pin);
     this.hasEnded = false;
+    this.heard = 0;
     /** @type {any} */
     this.options = {};
     /** @type {(task: object) => void} */
@@ -57,6 +61,7 @@ class BrowserHarness {
   handler(action) {
     return (/** @type {string} */ body, /** @type {URLSearchParams} */ query) => {
       if (query.get('token') !== this.token) throw new Error('this page is not the one that runs tests');
+      this.heard = Date.now();
       return action(JSON.parse(body));
     };
   }
@@ -96,24 +101,42 @@ class BrowserHarness {
       'POST /litmus/pin': this.handler((value) => this.pin(value)),
     }, 0, PAGES);
     this.page = openPage(this.kind, this.program, `${this.server.origin}/litmus/harness/page.html?token=${this.token}`);
-    const error = `it did not open the page in ${SECONDS_TO_OPEN} seconds`;
-    const late = after(1000 * SECONDS_TO_OPEN, { error }, { ref: false });
-    await this.answer(late);
+    await this.answer(SECONDS_TO_OPEN, {
+      gone: 'the browser ended before it opened a page; run it by hand to see why',
+      silent: `it did not open the page in ${SECONDS_TO_OPEN} seconds`,
+    });
     return this;
   }
 
   /**
-   * What the page posts next.
+   * Ends when nothing was heard of the page for so long.
    *
-   * @param {Promise<any>} [late]
+   * @param {number} seconds
+   * @param {AbortSignal} signal
    */
-  async answer(late) {
-    const gone = this.page?.ended.then(() => ({ error: 'the browser ended' }));
-    const answer = await Promise.race([this.posted, gone, ...(late ? [late] : [])]);
+  async silence(seconds, signal) {
+    this.heard = Date.now();
+    for (let left = 1000 * seconds; left > 0; left = this.heard + 1000 * seconds - Date.now()) {
+      await after(left, null, { ref: false, signal });
+    }
+  }
+
+  /**
+   * What the page posts next, other than how far it is.
+   *
+   * @param {number} seconds how long it may say nothing
+   * @param {{ gone: string, silent: string }} errors
+   */
+  async answer(seconds, { gone, silent }) {
+    const waiting = new AbortController();
+    const late = this.silence(seconds, waiting.signal).then(() => ({ error: silent }), () => ({ error: silent }));
+    const ended = this.page?.ended.then(() => ({ error: gone }));
+    const answer = await Promise.race([this.posted, ended, late]);
+    waiting.abort();
     this.posted = this.nextPost();
     if (!answer.error) return answer;
     this.hasEnded = true;
-    throw new Error(`${this.program}: ${answer.error}`);
+    throw new UserError(`${this.program}: ${answer.error}`);
   }
 
   isGone() {
@@ -128,7 +151,9 @@ class BrowserHarness {
     const { tell, isStopped, ...given } = options;
     this.options = { tell, isStopped };
     this.handOut({ test: task, options: given });
-    const answer = await this.answer();
+    const answer = await this.answer(SECONDS_OF_SILENCE, {
+      gone: 'the browser ended', silent: `its page said nothing for ${SECONDS_OF_SILENCE} seconds`,
+    });
     if (answer.failed) throw new Error(answer.failed);
     return answer.result;
   }

@@ -4,9 +4,11 @@ import os
 
 from wmlabtools.harness import Tally
 
-from . import commands, judges
+from . import bytewise, commands, judges
 from .decisions import FORBIDDEN, PERMITTED, UNDECIDED, Cache, Decisions
 from .executions import Limits
+from .logs import cycle_log
+from .modules import bytes_of
 from .specimens import Outcome, Specimen, specimen_of
 from .suite import suite
 from .texts import specimen_of_table, specimen_of_text
@@ -33,7 +35,8 @@ class Verdicts:
     """Verdicts by a program, kept in a folder of their own."""
 
     def __init__(self, program: str, room: str) -> None:
-        self.program, self.kept = program, Cache(os.path.join(room, "decisions"), program)
+        self.notes: list[str] = []
+        self.program, self.kept = program, Cache(os.path.join(room, "decisions"), program, self.notes.append)
 
     def of(self, specimen: Specimen, outcome: Outcome, limits: Limits = Limits()) -> tuple[str, str]:
         """The verdict on an outcome, and its reason."""
@@ -85,8 +88,44 @@ def test_limits(tally: Tally, room: str, verdicts: Verdicts) -> None:
     tally.check(got[0] == PERMITTED, "what it does within the limit is decided", got)
 
 
+def test_torn(tally: Tally, program: str, verdicts: Verdicts, room: str) -> None:
+    """The permitted outcomes have those in which one read's bytes come from several writes, or it is told that they may
+    not be all."""
+    for name, count in (("CoRR+un+un2", 16), ("SB+sc", 3)):
+        test = suite()[name]
+        module = os.path.join(room, f"{name}.wasm")
+        commands.write(module, bytes_of(test))
+        with judges.Stream(program, module) as stream:
+            second = bytewise.permitted(cycle_log(test), stream)
+        found = Decisions(specimen_of(test), verdicts.kept)
+        holds = set(found.permitted) == second and len(second) == count and found.all.is_whole
+        tally.check(holds, f"{name}: the permitted outcomes are those of the second enumeration", (found, second))
+    plain = Decisions(specimen_of_table("plain.litmus", WRITES.format(how="")), verdicts.kept)
+    holds = MIXED in plain.permitted and plain.all.is_whole
+    tally.check(holds, "a module's torn reads are listed", len(plain.permitted))
+    many = Decisions(specimen_of(suite()["CoRW2+un8+un@4"]), verdicts.kept)
+    tally.check(many.permitted and not many.all.is_whole, "too many outcomes are told", many.permitted)
+    waiting = Decisions(specimen_of_text("waits.wat", WAITS, None), verdicts.kept, Limits(events=4))
+    tally.check(waiting.permitted and not waiting.all.is_whole, "a loop that may go on is told", waiting.permitted)
+
+
+def test_kept(tally: Tally, program: str, room: str) -> None:
+    """Verdicts are kept; a folder that cannot be written is told once, and changes no verdict."""
+    notes: list[str] = []
+    buffering = specimen_of(suite()["SB+sc"])
+    for folder in (os.path.join(room, "kept-verdicts"), "/proc/none"):
+        kept = Cache(folder, program, notes.append)
+        got = [Decisions(buffering, kept).of((0, 0)).kind for _ in range(2)]
+        tally.check(got == [FORBIDDEN, FORBIDDEN], f"verdicts with the folder {folder}", got)
+    files = os.listdir(os.path.join(room, "kept-verdicts"))
+    holds = len(files) == 2 and len(notes) == 1 and notes[0].startswith("verdicts are not kept: /proc/none: ")
+    tally.check(holds, "a folder that cannot be written is told once", (files, notes))
+
+
 def test_decisions(tally: Tally, program: str, room: str) -> None:
     """All of this. Tables and texts need wat2wasm."""
     verdicts = Verdicts(program, room)
+    test_torn(tally, program, verdicts, room)
+    test_kept(tally, program, room)
     test_witnesses(tally, verdicts)
     test_limits(tally, room, verdicts)

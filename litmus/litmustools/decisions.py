@@ -4,12 +4,14 @@ which alone says that one is not permitted. The verdicts are kept in a folder.""
 import hashlib
 import json
 import os
+import shlex
 import tempfile
 from collections import Counter
-from collections.abc import Iterator
-from dataclasses import asdict, dataclass, field
+from collections.abc import Callable, Collection, Iterable, Iterator
+from dataclasses import asdict, dataclass, field, replace
 from functools import cache, cached_property
 from itertools import islice
+from math import prod
 
 from . import commands, judges, witnesses
 from .candidates import ANSWER, CHUNK, Candidates
@@ -24,18 +26,28 @@ PERMITTED, FORBIDDEN, UNDECIDED = "permitted", "not permitted", "not decided"
 # An outcome that none of so many candidates shows is left to `wmlab witness`; by bytes they serve explanations alone.
 MOST_CANDIDATES = 100_000
 MOST_BY_BYTE = 2_000
-FORMAT = 6
+# So many choices of a writer for each byte are tried for outcomes in which one read's bytes come from several writes.
+MOST_TORN = 20_000
+FORMAT = 7
 # The rules whose answer depends on the order of a candidate.
 ORDER_RULES = ("broken V2", "broken V5")
 
 
 @dataclass(frozen=True)
 class Verdict:
-    """`log` is a candidate with the outcome: one that is allowed, or else the last that was asked."""
+    """`log` is a candidate with an outcome that is not permitted, the last that was asked; or its witness."""
 
     kind: str
     reason: str
     log: str | None = None
+
+
+@dataclass(frozen=True)
+class Verdicts:
+    """Verdicts on outcomes, and whether each outcome that is permitted is known to be among them."""
+
+    of: dict[Outcome, Verdict]
+    is_whole: bool
 
 
 @dataclass
@@ -158,8 +170,8 @@ class Group:
 class Asking:
     """Asks about the groups of a question, of each outcome until a candidate is allowed."""
 
-    def __init__(self, question: Question, judge: Judge) -> None:
-        self.groups, self.judge = iter(question), judge
+    def __init__(self, groups: Iterable[Group], judge: Judge) -> None:
+        self.groups, self.judge = iter(groups), judge
         self.found: dict[Outcome, Asked] = {}
         self.count = 0
 
@@ -197,6 +209,40 @@ class Asking:
         return not active
 
 
+def values_of_reads(source: Candidates) -> list[set[int]]:
+    return [{choice.value for choice in choices} for choices in source.choices]
+
+
+def groups_by_byte(question: Question, known: Collection[Outcome]) -> Iterator[Group] | None:
+    """The candidates with a writer for each byte of the outcomes that are not known; nothing if they are too many, or
+    if a thread may go on."""
+    specimen = question.specimen
+    rows: Iterator[tuple[Outcome, Iterator[str]]]
+    if specimen.cycle:
+        source = Candidates(specimen.cycle, by_byte=True)
+        if values_of_reads(source) == values_of_reads(Candidates(specimen.cycle)):
+            return iter(())
+        if prod(map(len, source.choices)) > MOST_TORN:
+            return None
+        rows = ((outcome_of_cycle(specimen, values), lines) for values, lines in source.groups())
+        return (Group(outcome, lines) for outcome, lines in rows if outcome not in known)
+    executions = question.by_bytes
+    if executions.is_cut or prod(map(len, executions.paths)) > MOST_TORN:
+        return None
+    return (Group(outcome, lines) for outcome, lines in executions.groups(known))
+
+
+def torn(question: Question, judge: Judge, known: Collection[Outcome]) -> dict[Outcome, Asked] | None:
+    """What came of the outcomes beside the known ones, in which one read's bytes come from several writes; nothing if
+    they are too many to try."""
+    groups = groups_by_byte(question, known)
+    if groups is None:
+        return None
+    asking = Asking(islice(groups, MOST_TORN), judge)
+    is_whole = asking.all(MOST_TORN) and next(groups, None) is None
+    return asking.found if is_whole else None
+
+
 def settled(question: Question, asked: Asked, answer: Answer) -> Verdict:
     """The verdict on an outcome of which no candidate was allowed, by what the program answered about its values."""
     candidates = asked.reason if asked.answers else "no candidate has it"
@@ -209,25 +255,41 @@ def settled(question: Question, asked: Asked, answer: Answer) -> Verdict:
     return Verdict(FORBIDDEN, f"no witness; {candidates}", asked.log)
 
 
-def decide(program: str, question: Question) -> dict[Outcome, Verdict]:
-    """The verdict on each outcome that a candidate has, or on the one that the question names."""
+def shown(question: Question, judge: Judge) -> Verdicts:
+    """The outcomes that a candidate permits, and whether these are all that are permitted."""
+    asking = Asking(question, judge)
+    is_whole = asking.all(MOST_CANDIDATES)
+    further = torn(question, judge, asking.found)
+    found = {**asking.found, **(further or {})}
+    verdicts = {outcome: Verdict(PERMITTED, each.reason) for outcome, each in found.items() if each.is_permitted}
+    return Verdicts(verdicts, is_whole and further is not None)
+
+
+def asked_of(question: Question, judge: Judge) -> Asked:
+    """What came of the candidates of one outcome: those in which the bytes that accesses cover together come from one
+    write, or if there are none, those with a writer for each byte."""
+    for by_byte in (False, True):
+        asking = Asking(replace(question, by_byte=by_byte), judge)
+        asking.all(MOST_BY_BYTE if by_byte else MOST_CANDIDATES)
+        if asking.found:
+            break
+    return next(iter(asking.found.values()), Asked())
+
+
+def decide(program: str, question: Question) -> Verdicts:
+    """What candidates permit; or the verdict on the one outcome that the question names."""
     with tempfile.TemporaryDirectory() as room:
         module = os.path.join(room, "test.wasm")
         commands.write(module, question.module)
         with Stream(program, module) as stream:
-            asking = Asking(question, stream)
-            asking.all(MOST_BY_BYTE if question.by_byte else MOST_CANDIDATES)
-        if question.outcome is not None:
-            asking.found.setdefault(question.outcome, Asked())
-        verdicts = {}
-        for outcome, each in asking.found.items():
-            each.log = judges.completed(program, module, each.log) if each.log else None
-            if each.is_permitted:
-                verdicts[outcome] = Verdict(PERMITTED, each.reason, each.log)
-            else:
-                answer = witnesses.witness_of_any(program, module, question.logs_of_values(outcome))
-                verdicts[outcome] = settled(question, each, answer)
-        return verdicts
+            if question.outcome is None:
+                return shown(question, stream)
+            asked = asked_of(question, stream)
+        if asked.is_permitted:
+            return Verdicts({question.outcome: Verdict(PERMITTED, asked.reason)}, False)
+        asked.log = judges.completed(program, module, asked.log) if asked.log else None
+        answer = witnesses.witness_of_any(program, module, question.logs_of_values(question.outcome))
+        return Verdicts({question.outcome: settled(question, asked, answer)}, False)
 
 
 @cache
@@ -237,10 +299,12 @@ def digest_of(path: str) -> str:
 
 
 class Cache:
-    """Answers that are kept in a folder, by the program, the module and the question."""
+    """Answers that are kept in a folder, by the program, the module and the question. If it cannot be written, `note`
+    is told once."""
 
-    def __init__(self, folder: str, program: str) -> None:
-        self.folder, self.program = folder, program
+    def __init__(self, folder: str, program: str, note: Callable[[str], None]) -> None:
+        self.folder, self.program, self.note = folder, program, note
+        self.is_written = True
 
     def path(self, question: Question) -> str:
         logged = question.specimen.logged
@@ -251,27 +315,36 @@ class Cache:
             hashlib.sha256(logged.traced if logged else b"").hexdigest(),
             [thread.word for thread in (logged or question.specimen).threads],
             [asdict(column) for column in question.specimen.columns],
-            [question.by_byte, question.outcome, asdict(question.limits), MOST_CANDIDATES, MOST_BY_BYTE],
+            [question.outcome, asdict(question.limits), MOST_CANDIDATES, MOST_BY_BYTE, MOST_TORN],
         ]
         name = hashlib.sha256(json.dumps(parts).encode()).hexdigest()
         return os.path.join(self.folder, f"{name}.json")
 
-    def read(self, path: str) -> dict[Outcome, Verdict] | None:
+    def read(self, path: str) -> Verdicts | None:
         try:
             with open(path, encoding="utf-8") as file:
-                rows = json.load(file)
-            return {tuple(outcome): Verdict(*verdict) for outcome, verdict in rows}
+                rows, is_whole = json.load(file)
+            return Verdicts({tuple(outcome): Verdict(*verdict) for outcome, verdict in rows}, is_whole)
         except (OSError, ValueError, TypeError):
             return None
 
-    def decided(self, question: Question) -> dict[Outcome, Verdict]:
+    def decided(self, question: Question) -> Verdicts:
         path = self.path(question)
         found = self.read(path)
         if found is None:
             found = decide(self.program, question)
-            rows = [[outcome, [each.kind, each.reason, each.log]] for outcome, each in sorted(found.items())]
-            self.write(path, json.dumps(rows))
+            rows = [[outcome, [each.kind, each.reason, each.log]] for outcome, each in sorted(found.of.items())]
+            self.keep(path, json.dumps([rows, found.is_whole]))
         return found
+
+    def keep(self, path: str, text: str) -> None:
+        if self.is_written:
+            try:
+                self.write(path, text)
+            except OSError as error:
+                self.is_written = False
+                folder = shlex.quote(self.folder)
+                self.note(f"verdicts are not kept: {folder}: {error.strerror}; --cache names another folder")
 
     def write(self, path: str, text: str) -> None:
         """A file that another run reads at the same time is there as a whole or not at all."""
@@ -296,13 +369,11 @@ class Decisions:
         self.all = kept.decided(self.question)
 
     def of(self, outcome: Outcome) -> Verdict:
-        """The verdict on an outcome, also on one that no candidate has in which the bytes that accesses cover together
-        come from one write."""
-        found = self.all.get(outcome)
-        if found:
-            return found
-        return self.kept.decided(Question(self.specimen, True, outcome, self.limits))[outcome]
+        """The verdict on an outcome, also on one that no candidate has."""
+        found = self.all.of.get(outcome)
+        return found or self.kept.decided(Question(self.specimen, False, outcome, self.limits)).of[outcome]
 
     @property
     def permitted(self) -> list[Outcome]:
-        return sorted(outcome for outcome, verdict in self.all.items() if verdict.kind == PERMITTED)
+        """The permitted outcomes; there may be others unless `all.is_whole`."""
+        return sorted(self.all.of)

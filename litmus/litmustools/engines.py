@@ -16,6 +16,7 @@ from wmlabtools import TOP
 from .judges import Failed
 from .specimens import Specimen
 
+EARLY = "the harness ended early"
 COMMAND = os.path.join(TOP, "litmus/harness/main.mjs")
 ENGINES = ("node", "chromium", "firefox", "webkit")
 WRONG = (
@@ -84,6 +85,10 @@ def ignore(_name: str, _done: int) -> None:
     """Progress that nobody wants to see."""
 
 
+def say_nothing(_sentence: str) -> None:
+    """What nobody wants to be told."""
+
+
 @dataclass
 class Harness:
     """An engine with its process. Used in a `with` statement."""
@@ -91,8 +96,9 @@ class Harness:
     settings: Settings
     version: str = ""
     tell: Callable[[str, int], None] = field(default=ignore)
+    note: Callable[[str], None] = field(default=say_nothing)
     is_stopped: bool = False
-    ending: str = "the harness ended early"
+    ending: str = EARLY
 
     def __enter__(self) -> "Harness":
         node = shutil.which("node")
@@ -144,15 +150,23 @@ class Harness:
                 self.version = value["engine"]
             elif "progress" in value:
                 self.tell(value["progress"]["name"], value["progress"]["done"])
+            elif "again" in value:
+                name, message = value["again"]["name"], value["again"]["message"]
+                self.note(f"{name}: {message}; it is opened once more, and the test begins again")
             elif "result" in value:
                 yield ran_of(value["result"])
-            elif value["failed"]["name"] is None:
-                raise Failed(value["failed"]["message"])
-            else:
+            elif value["failed"]["name"] is not None:
                 yield Ran(value["failed"]["name"], problem=value["failed"]["message"])
+            elif self.version:
+                self.ending = value["failed"]["message"]
+            else:
+                raise Failed(value["failed"]["message"])
         writer.join(timeout=1)
-        status = self.process.wait()
+        self.end_of(self.process.wait())
+
+    def end_of(self, status: int) -> None:
+        """Keeps why the harness ended, if it did not say so itself."""
         if status < 0:
             self.ending = f"the harness was ended by {signal.Signals(-status).name}"
-        elif status:
+        elif status and self.ending == EARLY:
             self.ending = f"the harness ended with status {status}"

@@ -5,7 +5,7 @@ import json
 import os
 import shutil
 import subprocess
-from collections.abc import Iterator
+from collections.abc import Collection, Iterator
 from dataclasses import dataclass
 from itertools import islice, product
 from typing import Any
@@ -186,10 +186,11 @@ class Executions:
             rows.append(f'["{thread.start}",{log.compact(args)},["cut"],0,{log.compact(events)}]')
         return ",".join(rows)
 
-    def groups(self) -> Iterator[tuple[Outcome, Iterator[str]]]:
-        """The candidates in groups that differ in their order alone: the outcome, and the logs."""
+    def groups(self, known: Collection[Outcome] = ()) -> Iterator[tuple[Outcome, Iterator[str]]]:
+        """The candidates in groups that differ in their order alone: the outcome, which is none of the known ones, and
+        the logs."""
         for paths in self.combinations():
             outcome = self.outcome_of(paths)
-            if outcome is not None:
+            if outcome is not None and outcome not in known:
                 for lines in self.logs_of(paths):
                     yield outcome, lines

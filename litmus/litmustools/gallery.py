@@ -4,7 +4,7 @@ import os
 import subprocess
 import tempfile
 from collections import Counter
-from collections.abc import Iterable, Sequence
+from collections.abc import Callable, Iterable, Mapping, Sequence
 from dataclasses import dataclass, field
 from typing import Any
 
@@ -172,25 +172,64 @@ def seen_of(row: Row, run: dict[str, Any]) -> Seen:
     return Seen({row.test.outcome: run["positive"]}, dict(verdicts), run["iterations"])
 
 
-def take_runs(rows: Sequence[Row], engine: str, lines: Iterable[str]) -> str:
-    """Gives the rows what an engine's lines of `litmus/run --json` tell. Answers its version."""
-    runs = {run["name"]: run for run in map(json.loads, lines)}
+# What a line of `litmus/run --json` tells, of all that is read here.
+KEYS = frozenset(("name", "engine", "positive", "iterations", "states"))
+
+
+def runs_of(engine: str, lines: Iterable[str]) -> dict[str, dict[str, Any]]:
+    """An engine's lines of `litmus/run --json` by the names of their tests, the last one of a name."""
+    found = {}
+    for number, line in enumerate(lines, 1):
+        try:
+            run = json.loads(line)
+        except ValueError:
+            run = None
+        if not isinstance(run, dict) or not KEYS <= run.keys():
+            raise Failed(f"{engine}: line {number} is none of litmus/run --json: {line.strip()[:60]}")
+        found[run["name"]] = run
+    return found
+
+
+def take_runs(rows: Sequence[Row], engine: str, runs: Mapping[str, dict[str, Any]]) -> str:
+    """Gives the rows what an engine's runs tell. Answers its version."""
     missing = [row.test.name for row in rows if row.test.name not in runs]
     if missing:
-        raise Failed(f"{engine} did not run {missing[0]} and {len(missing) - 1} other tests")
+        others = f" and {len(missing) - 1} other tests" if missing[1:] else ""
+        raise Failed(f"{engine} did not run {missing[0]}{others}")
     for row in rows:
         row.engines[engine] = seen_of(row, runs[row.test.name])
-    version: str = next(iter(runs.values()))["engine"]
+    version: str = runs[rows[0].test.name]["engine"]
     return version
 
 
-def engine_runs(rows: Sequence[Row], program: str, engine: str, iterations: int) -> str:
+def kept_lines(engine: str, lines: list[str]) -> str:
+    """Keeps the tables of an engine that failed later, in the folder that the command was started in. Answers how they
+    are used."""
+    if not lines:
+        return ""
+    path = f"gallery-{engine}.jsonl"
+    with open(path, "w", encoding="utf-8") as file:
+        file.writelines(lines)
+    return f"; {path} has {len(lines)} tables: append the others, and give --columns --seen {engine}={path}"
+
+
+def engine_runs(
+    rows: Sequence[Row], program: str, engine: str, iterations: int, tell: Callable[[str], None]
+) -> str:
     """Has an engine run each test so many times by litmus/run. Answers its version."""
     command = [RUN_COMMAND, "--json", "--engine", engine, "--iterations", str(iterations), "--wmlab", program]
-    with tempfile.TemporaryDirectory() as folder:
+    lines: list[str] = []
+    with tempfile.TemporaryDirectory() as folder, tempfile.TemporaryFile("w+") as errors:
         words = [*command, "--found", folder, *(row.test.name for row in rows)]
-        ran = subprocess.run(words, stdout=subprocess.PIPE, stderr=subprocess.PIPE, text=True, check=False)
-    if ran.returncode not in (0, 1):
-        last = (ran.stderr.strip().splitlines() or [f"status {ran.returncode}"])[-1]
-        raise Failed(f"litmus/run: {last.removeprefix('run: ')}")
-    return take_runs(rows, engine, ran.stdout.splitlines())
+        with subprocess.Popen(words, stdout=subprocess.PIPE, stderr=errors, text=True) as running:
+            assert running.stdout
+            for line in running.stdout:
+                lines.append(line)
+                if len(lines) % 100 == 0:
+                    tell(f"{engine}: {len(lines)} of {len(rows)} tests")
+        errors.seek(0)
+        said = errors.read().strip().splitlines()
+    if running.returncode not in (0, 1):
+        last = (said or [f"status {running.returncode}"])[-1]
+        raise Failed(f"litmus/run: {last.removeprefix('run: ')}{kept_lines(engine, lines)}")
+    return take_runs(rows, engine, runs_of(engine, lines))

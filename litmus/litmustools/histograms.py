@@ -22,7 +22,8 @@ class State:
 
 @dataclass
 class Histogram:
-    """All outcomes of a specimen in a run, the most frequent first."""
+    """All outcomes of a specimen in a run, the most frequent first; and the permitted ones, all of them if
+    `is_whole`."""
 
     specimen: Specimen
     ran: Ran
@@ -30,6 +31,7 @@ class Histogram:
     settings: Settings
     states: list[State] = field(default_factory=list)
     permitted: list[Outcome] = field(default_factory=list)
+    is_whole: bool = True
 
     @property
     def positive(self) -> int:
@@ -63,7 +65,7 @@ def histogram_of(specimen: Specimen, ran: Ran, version: str, settings: Settings,
         counts[outcome] = counts.get(outcome, 0) + count
     states = [State(o, count, decisions.of(o), specimen.is_starred(o)) for o, count in counts.items()]
     states.sort(key=lambda state: (-state.count, state.outcome))
-    return Histogram(specimen, ran, version, settings, states, decisions.permitted)
+    return Histogram(specimen, ran, version, settings, states, decisions.permitted, decisions.all.is_whole)
 
 
 def observation(histogram: Histogram) -> str:
@@ -100,7 +102,7 @@ def pins_text(histogram: Histogram) -> str:
     """Whether the threads had processors of their own."""
     count, pins = len(histogram.specimen.threads), histogram.settings.pin
     if histogram.ran.pinned >= count:
-        return f"threads pinned to processors {' '.join(map(str, pins[:count]))}"
+        return f"threads pinned to processors {' '.join(str(pins[k % len(pins)]) for k in range(count))}"
     return f"threads not pinned ({histogram.ran.pin_problem or 'not all of them were found'})"
 
 
@@ -129,7 +131,8 @@ def verdict_lines(histogram: Histogram) -> list[str]:
     specimen, permitted = histogram.specimen, histogram.permitted
     unseen = [outcome for outcome in permitted if outcome not in counts]
     seen = sum(state.verdict.kind == PERMITTED for state in histogram.states)
-    lines = [f"Permitted {specimen.name} {seen + len(unseen)} outcomes, {seen} seen"]
+    least, count = "" if histogram.is_whole else "at least ", seen + len(unseen)
+    lines = [f"Permitted {specimen.name} {least}{count} outcome{'' if count == 1 else 's'}, {seen} seen"]
     lines += [f"{0:<8}{'*>' if specimen.is_starred(o) else ':>'}{specimen.state(o)}" for o in unseen[:MOST_STATES]]
     if len(unseen) > MOST_STATES:
         lines.append(f"and {len(unseen) - MOST_STATES} more that were not seen")
@@ -181,4 +184,5 @@ def data_of(histogram: Histogram) -> dict[str, Any]:
             for state in histogram.states
         ],
         "permitted": [dict(zip(names, outcome, strict=True)) for outcome in histogram.permitted],
+        "complete": histogram.is_whole,
     }

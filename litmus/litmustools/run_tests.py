@@ -15,6 +15,7 @@ from .accesses import BadCycle
 from .beyond import beyond, malformed, wrong_permission
 from .conditions import condition_of
 from .decision_tests import test_decisions
+from .engines import ENGINES
 from .judges import Stream
 from .model import CASES, Model
 from .modules import bytes_of
@@ -94,6 +95,22 @@ LOOPS = """(module (memory 1 1 shared) (data (i32.const 32) "\\05")
     (i32.load (i32.const 0))))
 ;; threads a b:77
 ;; forall (a=6 /\\ (b=77 \\/ b=1 \\/ b=0))
+"""
+
+# A browser that answers for its page. A file has the number of its runs that end in the middle of their first test.
+FAKE_BROWSER = """#!/usr/bin/env node
+const { readFileSync, writeFileSync } = require('node:fs');
+const address = new URL(process.argv.find((word) => word.startsWith('http')) ?? 'http://localhost');
+const post = async (answer) => (await fetch(`${address.origin}/litmus/task${address.search}`, {
+  method: 'POST', body: JSON.stringify(answer) })).json();
+const result = { iterations: 5, milliseconds: 1, tuples: [[['0', '1'], 5]], others: 0 };
+async function main() {
+  if (process.argv.includes('--version')) return console.log('Fake 1');
+  const left = Number(readFileSync(process.env.DEATHS, 'utf8'));
+  writeFileSync(process.env.DEATHS, String(left - 1));
+  for (let answer = {}; !(await post(answer)).end; answer = { result }) if (left > 0) process.exit(1);
+}
+main();
 """
 
 Environment = dict[str, str] | None
@@ -211,6 +228,37 @@ def fake(run: Commands, name: str, script: str) -> dict[str, str]:
     return {"PATH": f"{folder}:{os.environ['PATH']}"}
 
 
+def test_browser_that_ends(tally: Tally, run: Commands) -> None:
+    """A browser that ends in a test is opened once more for it; after two tests in which it ended twice, no more."""
+    deaths = run.written("deaths", "")
+    fake(run, "chromium", "")
+    program = run.written("fake-chromium/chromium", FAKE_BROWSER)
+    environment = {"PATH": f"{os.path.dirname(program)}:{os.environ['PATH']}", "DEATHS": deaths}
+    for count, done, failed, sentence in (
+        (1, 3, 0, "run: SB: chromium: the browser ended; it is opened once more"),
+        (2, 2, 1, "run: SB: chromium: the browser ended"),
+        (4, 0, 2, "run: the engine ended in 2 tests one after the other; 1 of 3 tests, from SB+sc on, "),
+    ):
+        commands.write(deaths, str(count))
+        words = ("SB", "MP", "SB+sc", "--engine", "chromium", "--pin", "none", "--json")
+        out, err, status = run.run(*words, environment=environment)
+        ends = [line for line in err.splitlines() if line.endswith(": the browser ended")]
+        holds = status == (2 if failed else 0) and len(out.splitlines()) == done and len(ends) == failed
+        tally.check(holds and sentence in err, f"a browser that ends {count} times", (status, out, err))
+
+
+def test_folders(tally: Tally, run: Commands) -> None:
+    """Folders that cannot be written, and two runs into one."""
+    out, err, status = run.run("SB+sc", "--iterations", "1000", "--cache", "/proc/none")
+    holds = status == 0 and err.count("run: verdicts are not kept: /proc/none: ") == 1
+    tally.check(holds, "a folder of verdicts that cannot be written", (status, out, err))
+    wrong = ("SB+sc", "--wrong", "plain-atomics", "--found", "/proc/none", "--iterations", "200000")
+    if harness.processors() > 1:
+        ended = [run.run(*wrong) for _ in range(MOST_TRIES)]
+        holds = any(status == 1 and "/proc/none cannot be written" in err for _, err, status in ended)
+        tally.check(holds, "a folder of finds that cannot be written", ended[-1])
+
+
 def test_surroundings(tally: Tally, run: Commands) -> None:
     """No permission to pin, one processor, a browser that dies, no node."""
     refusing = fake(run, "taskset", "echo 'Operation not permitted' >&2; exit 1")
@@ -222,6 +270,9 @@ def test_surroundings(tally: Tally, run: Commands) -> None:
     out, err, status = run.run("CoRR", "--iterations", "1000", before=("taskset", "-c", first))
     holds = status == 0 and "1 processor for 2 threads" in err
     tally.check(holds, "one processor is told, and the test runs", out + err)
+    out, err, status = run.run("CoRR", "--iterations", "1000", "--pin", first)
+    holds = status == 0 and "1 processor for 2 threads" in err and f"pinned to processors {first} {first}" in out
+    tally.check(holds, "one processor that was chosen is told", out + err)
     dying = fake(run, "chromium", "[ $1 = --version ] && echo Fake 1 || exit 1")
     out, err, status = run.run("SB", "--engine", "chromium", environment=dying)
     tally.check(status == 2 and "the browser ended" in err.splitlines()[-1], "a browser that dies", out + err)
@@ -237,11 +288,11 @@ def test_surroundings(tally: Tally, run: Commands) -> None:
 
 def test_browsers(tally: Tally, run: Commands) -> None:
     """The same tests in each browser that is installed."""
-    for engine, programs in (("chromium", ("chromium",)), ("firefox", ("firefox-esr", "firefox"))):
-        if not any(map(shutil.which, programs)):
-            print(f"{engine} is not there: litmus/run in it is left out")
-            continue
+    for engine in ENGINES[1:]:
         out, err, status = run.run("SB+sc", HANDSHAKE, "--engine", engine, "--iterations", "20000", "--json")
+        if status == 2 and not out and "which is not installed" in err:
+            print(f"litmus/run in {engine} is left out: {err.splitlines()[-1]}")
+            continue
         rows = [json.loads(line) for line in out.splitlines()]
         holds = status == 0 and [row["iterations"] for row in rows] == [20480, 20480]
         tally.check(holds and engine in rows[0]["engine"].lower(), f"litmus/run in {engine}", out + err)
@@ -345,6 +396,8 @@ def test_run(tally: Tally, program: str, room: str) -> None:
     test_wrong_engines(tally, run)
     test_mistakes(tally, run)
     test_surroundings(tally, run)
+    test_folders(tally, run)
+    test_browser_that_ends(tally, run)
     test_browsers(tally, run)
     test_interruption(tally, run)
     test_pipes(tally, run)

@@ -48,7 +48,7 @@ answer() {
     local status
     case $1 in
     help | version) exec "$program" "$@" ;;
-    stream) answer_stream "$@" ;;
+    stream | decide) answer_stream "$@" ;;
     *) run_child "$@" ;;
     esac
     if [ "$status" -eq 2 ]; then give_hints "$@" || true; fi

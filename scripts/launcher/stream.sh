@@ -1,17 +1,19 @@
-# The command `stream`: its answers go on as they come, beside a count of them for people.
+# The commands `stream` and `decide`: their answers go on as they come, beside a count of them for people.
 # shellcheck shell=bash disable=SC2154 # the launcher sets `program`
 
-# Counts the answers of each verdict, and ends with a hint if no line was a document and the first was no JSON. On a
+# Counts the answers of each kind, and ends with a hint if no line was a document and the first was no JSON. On a
 # terminal it shows the counts: each second if `shows` is `moving`, and at the end. `srand` tells the time in seconds.
 count_answers() {
-    awk -v shows="$1" '
+    awk -v shows="$1" -v command="$2" '
         function counts() {
-            return sprintf("wmlab: %d answer%s: %d allowed, %d broken, %d refused", \
-                NR, NR == 1 ? "" : "s", of["allowed"], of["broken"], of["refused"])
+            return sprintf("wmlab: %d answer%s: ", NR, NR == 1 ? "" : "s") (command == "decide" ? \
+                sprintf("%d with a witness, %d without, %d broken, %d not decided, %d refused", \
+                    of["witness"], of["no"], of["broken"], of["gave"], of["refused"]) : \
+                sprintf("%d allowed, %d broken, %d refused", of["allowed"], of["broken"], of["refused"]))
         }
         BEGIN { srand(); shown = srand() }
         {
-            of[$1]++
+            of[/^\[/ ? "witness" : $1]++
             if ($0 !~ /^refused document /) read++
             if (NR == 1) first = $0
             if (shows == "moving") {
@@ -38,7 +40,7 @@ answer_stream() {
     local shows="" copy answers counter copier
     if [ -t 2 ]; then shows=moving; fi
     if [ -t 2 ] && [ -t 1 ]; then shows=end; fi
-    exec {copy}> >(count_answers "$shows" >/dev/null)
+    exec {copy}> >(count_answers "$shows" "$1" >/dev/null)
     counter=$!
     exec {answers}> >(exec tee --output-error=exit /dev/fd/"$copy" 2>/dev/null)
     copier=$!

@@ -1,5 +1,5 @@
-"""Pictures of small executions, as SVG: what `wmlab graph` shows of a log, with the edges `fr` and `co` that make the
-cycle of the test, names of locations, a title in words and a legend."""
+"""Pictures of small executions, as SVG: what `wmlab graph` shows of a log, with names of locations, a title in words
+and a legend."""
 import html
 import itertools
 import re
@@ -34,7 +34,7 @@ RULES = {
 KINDS = {"w": "W", "r": "R", "x": "U"}
 QUOTED = r'"((?:[^"\\]|\\.)*)"'
 DRAWN_NODE = re.compile(rf"^ +e(\d+)_(\d+) \[label={QUOTED}(.*)\];$", re.MULTILINE)
-DRAWN_EDGE = re.compile(rf"^ +e(\d+)_(\d+) -> e(\d+)_(\d+) \[x?label={QUOTED}(.*)\];$", re.MULTILINE)
+DRAWN_EDGE = re.compile(rf"^ +e(\d+)_(\d+) -> e(\d+)_(\d+) \[(?:x|tail)label={QUOTED}(.*)\];$", re.MULTILINE)
 DRAWN_THREAD = re.compile(rf'^    label={QUOTED};$', re.MULTILINE)
 DRAWN_TITLE = re.compile(rf"^  label={QUOTED};$", re.MULTILINE)
 
@@ -45,7 +45,8 @@ class NotDrawn(Exception):
 
 @dataclass(frozen=True)
 class Shown:
-    """What `wmlab graph` shows of a log: its title, the threads, the instructions of events, and what is at fault."""
+    """What `wmlab graph` shows of a log: its title, the threads, the instructions of events, what is at fault, and
+    which arrows are wide: those of a cycle, and the red ones."""
 
     verdict: str
     threads: list[str]
@@ -53,6 +54,7 @@ class Shown:
     faulty: set[Name]
     edges: list[Edge]
     red: set[tuple[Name, Name]]
+    wide: set[tuple[Name, Name]]
 
 
 def unquoted(label: str) -> str:
@@ -74,13 +76,16 @@ def shown_by(graph: str) -> Shown:
             faulty.add(name)
     edges: list[Edge] = []
     red: set[tuple[Name, Name]] = set()
+    wide: set[tuple[Name, Name]] = set()
     for *numbers, label, more in DRAWN_EDGE.findall(graph):
         source, target = tuple(map(int, numbers[:2])), tuple(map(int, numbers[2:]))
         kinds = [word.split(" ")[0] for word in label.split(", ")]
         edges += [Edge(source, target, kind) for kind in kinds if kind in ("fr", "co")]
         if 'color="red"' in more:
             red.add((source, target))
-    return Shown(unquoted(title[1]), [*map(unquoted, DRAWN_THREAD.findall(graph))], places, faulty, edges, red)
+        if "penwidth=2" in more:
+            wide.add((source, target))
+    return Shown(unquoted(title[1]), [*map(unquoted, DRAWN_THREAD.findall(graph))], places, faulty, edges, red, wide)
 
 
 def title_of(verdict: str) -> str:
@@ -148,16 +153,14 @@ class Drawn:
 
 def drawn_edges(execution: Execution, shown: Shown) -> list[Drawn]:
     """The edges of the picture, those of the initial memory left out: what they say is at the reads."""
-    cycle = execution.cycle()
-    conflicts = dict.fromkeys([*(edge for edge in cycle if edge.kind in ("fr", "co")), *shown.edges])
     found = []
-    for edge in (*execution.program_order(), *execution.reads_from(), *conflicts):
+    for edge in (*execution.program_order(), *execution.reads_from(), *shown.edges):
         style = "sw" if execution.synchronizes(edge) else edge.kind
         label = {"sb": "", "sw": "rf, sw"}.get(style, edge.kind)
         if edge.kind == "rf":
             label += bytes_text(execution, edge)
-        is_red = (edge.source, edge.target) in shown.red and edge.kind in ("sb", "rf")
-        found.append(Drawn(edge, label, style, is_red, is_red or edge in cycle))
+        ends = edge.source, edge.target
+        found.append(Drawn(edge, label, style, ends in shown.red and edge.kind in ("sb", "rf"), ends in shown.wide))
     return found
 
 

@@ -14,6 +14,7 @@ use Rattle.wm_command.specs.declared.command.Command.{Command}
 use Rattle.wm_command.specs.declared.command.Command.TheVariants.{OfRun, OfDocument, Witness, Stream, Drive, Trace, Run, Explore, Witnesses, Help, Version}
 use Rattle.wm_command.specs.declared.command.WitnessWords.TheVariants.{One, Two, Three}
 use Rattle.wm_command.specs.declared.command.DocumentTask.TheVariants as document
+use Rattle.wm_command.specs.declared.command.LineTask.TheVariants as line
 use Rattle.wm_command.specs.declared.command.RunTask.TheVariants as run
 
 -- the first parts of pairs
@@ -68,7 +69,8 @@ fields_begin (OfDocument document.Graph d) = ([], refl)
 fields_begin (Witness (One a)) = ([], refl)
 fields_begin (Witness (Two a b)) = (codes "document" ∷ [], refl)
 fields_begin (Witness (Three a b c)) = (codes "document" ∷ codes "nodes" ∷ [], refl)
-fields_begin (Stream m) = ([], refl)
+fields_begin (Stream line.Verify m) = ([], refl)
+fields_begin (Stream line.Witness m) = ([], refl)
 fields_begin (Drive m t) = ([], refl)
 fields_begin (Trace m t) = ([], refl)
 fields_begin (Run m r) = ([], refl)

@@ -58,6 +58,10 @@ stream_takes_no_document : IsNoCommand (codes "stream" ∷ codes "a.wasm" ∷ co
 unfolding clap_on_literals
 stream_takes_no_document command is = let none = is.taken in cc
 
+decide_is_read : read (codes "decide" ∷ codes "a.wasm" ∷ []) ≡ Some (codes "decide", Some (codes "a.wasm"), None)
+unfolding clap_on_literals read
+decide_is_read = refl
+
 races_of_a_module_is_taken : fault_of wmlab_app (codes "races" ∷ codes "a.wasm" ∷ codes "-" ∷ []) ≡ []
 unfolding clap_on_literals
 races_of_a_module_is_taken = refl

@@ -14,6 +14,8 @@ use Rattle.wm_command.specs.declared.command.Command.{Command}
 use Rattle.wm_command.specs.declared.command.Command.TheVariants.{OfRun, OfDocument, Witness, Stream, Drive, Trace, Run, Explore, Witnesses, Help, Version}
 use Rattle.wm_command.specs.declared.command.DocumentTask.{DocumentTask}
 use Rattle.wm_command.specs.declared.command.DocumentTask.TheVariants as document
+use Rattle.wm_command.specs.declared.command.LineTask.{LineTask}
+use Rattle.wm_command.specs.declared.command.LineTask.TheVariants as line
 use Rattle.wm_command.specs.declared.command.RunTask.{RunTask}
 use Rattle.wm_command.specs.declared.command.RunTask.TheVariants as run
 use Rattle.wm_command.specs.declared.command.WitnessWords.{WitnessWords}
@@ -81,6 +83,7 @@ forms =
     ∷ checked_form (codes "complete")
     ∷ checked_form (codes "verify")
     ∷ file_form (codes "stream")
+    ∷ file_form (codes "decide")
     ∷ started_form (codes "drive") (codes "turns")
     ∷ started_form (codes "trace") (codes "turns")
     ∷ started_form (codes "run") (codes "rounds")
@@ -152,11 +155,15 @@ document_task_name document.Races = codes "races"
 document_task_name document.Explain = codes "explain"
 document_task_name document.Graph = codes "graph"
 
+abbrev pub line_task_name : LineTask → Text
+line_task_name line.Verify = codes "stream"
+line_task_name line.Witness = codes "decide"
+
 abbrev pub name_of : Command → Text
 name_of (OfRun task file document) = run_task_name task
 name_of (OfDocument task document) = document_task_name task
 name_of (Witness words) = codes "witness"
-name_of (Stream file) = codes "stream"
+name_of (Stream task file) = line_task_name task
 name_of (Drive file turns) = codes "drive"
 name_of (Trace file turns) = codes "trace"
 name_of (Run file rounds) = codes "run"
@@ -176,7 +183,7 @@ abbrev pub fields_of : Command → List (Text × Text)
 fields_of (OfRun task file document) = (codes "file", file.now) ∷ (codes "document", document.now) ∷ []
 fields_of (OfDocument task document) = (codes "file", document.now) ∷ []
 fields_of (Witness words) = witness_fields words
-fields_of (Stream file) = (codes "file", file.now) ∷ []
+fields_of (Stream task file) = (codes "file", file.now) ∷ []
 fields_of (Drive file turns) = (codes "file", file.now) ∷ (codes "turns", turns.now) ∷ []
 fields_of (Trace file turns) = (codes "file", file.now) ∷ (codes "turns", turns.now) ∷ []
 fields_of (Run file rounds) = (codes "file", file.now) ∷ (codes "rounds", rounds.now) ∷ []

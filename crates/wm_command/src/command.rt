@@ -41,6 +41,15 @@ pub enum DocumentTask {
     Graph,
 }
 
+/// What is asked about each line of the input, a document over a module.
+#[derive(Clone, Copy)]
+pub enum LineTask {
+    /// Completes the document against its module, and checks it.
+    Verify,
+    /// Completes the document against its module, and searches for a witness.
+    Witness,
+}
+
 /// The words of `witness` after its name. Its reader tells which of them is a module, a document or a number of nodes.
 #[derive(Clone, Copy)]
 pub enum WitnessWords<'a> {
@@ -67,8 +76,9 @@ pub enum Command<'a> {
     Witness {
         words: WitnessWords<'a>,
     },
-    /// Verifies each line of the input as a document against a module.
+    /// Answers what is asked about each line of the input as a document over a module.
     Stream {
+        task: LineTask,
         module: &'a str,
     },
     /// Plays a script over a module; the remaining words are the starts of its threads.
@@ -280,6 +290,7 @@ fn with_commands<'a>(alloc: Global, parser: Parser<'a>) -> Result<Parser<'a>, Al
         ("complete", Shape::Checked),
         ("verify", Shape::Checked),
         ("stream", Shape::File),
+        ("decide", Shape::File),
         ("drive", Shape::Turns),
         ("trace", Shape::Turns),
         ("run", Shape::Rounds),
@@ -415,7 +426,13 @@ fn command_of<'a>(name: &str, words: &ArgMatches<'a>) -> Option<Command<'a>>
         "verify" => run_command(name, RunTask::Verify, words),
         "stream" => {
             let module = one_word(words, "file")?;
-            Some(Command::Stream { module })
+            let task = LineTask::Verify;
+            Some(Command::Stream { task, module })
+        }
+        "decide" => {
+            let module = one_word(words, "file")?;
+            let task = LineTask::Witness;
+            Some(Command::Stream { task, module })
         }
         "drive" => {
             let (module, turns) = two_words(words, "file", "turns")?;

@@ -15,7 +15,9 @@ mod turns;
 mod usage;
 mod words;
 
-pub use command::{Command, CommandFault, DocumentTask, RunTask, WitnessWords, read_command};
+pub use command::{
+    Command, CommandFault, DocumentTask, LineTask, RunTask, WitnessWords, read_command,
+};
 pub use fault::WordFault;
 pub use nodes::read_nodes;
 pub use number::is_number;

@@ -5,7 +5,7 @@ pub(crate) fn usage_of(name: &str) -> Option<&'static str> {
     match name {
         "rules" | "migrate" => Some(" DOC"),
         "check" | "complete" | "verify" => Some(" MODULE DOC"),
-        "stream" => Some(" MODULE"),
+        "stream" | "decide" => Some(" MODULE"),
         "drive" | "trace" => Some(" MODULE TURNS START.."),
         "run" => Some(" MODULE ROUNDS START.."),
         "races" | "explain" | "graph" => Some(" [MODULE] DOC"),

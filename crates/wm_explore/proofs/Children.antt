@@ -4,7 +4,7 @@ use Rattle.std.specs.Prelude.{◌≢◌, ◌⊎◌, slice_get}
 use Rattle.std.specs.Option.{option_map_or}
 use Rattle.std.proofs.lemmas.Bool.{cases_eq, cases_lt, lt-ltb, ltb-true}
 use Rattle.std.proofs.lemmas.List.{length-append}
-use Rattle.std.proofs.lemmas.Option.{none-some, same_Some}
+use Rattle.std.proofs.lemmas.Option.{none-some, same_Some, slice_get_within}
 use Rattle.wm_event.specs.declared.event.Event.{Event}
 use Rattle.wm_event.specs.declared.event.EventId.{EventId}
 use Rattle.wm_event.specs.declared.event.EventId.TheVariants.{Init, At}
@@ -18,7 +18,8 @@ use Rattle.wm_event.specs.LoggedRun.{LoggedRun, execution}
 use Rattle.wm_part.specs.Cut.{is_kept}
 use Rattle.wm_part.specs.Part.{HasItsWriters}
 use Rattle.wm_explore.specs.Executions.{starts_of}
-use Rattle.wm_explore.specs.States.{GoesOn, HasArrived, IsBeginning, IsChild, IsMarked, IsMissed, IsState, count_in, with_last}
+use Rattle.wm_explore.specs.Judging.{LooksBack}
+use Rattle.wm_explore.specs.States.{ArriveInOrder, GoesOn, HasArrived, IsBeginning, IsChild, IsMarked, IsMissed, IsState, count_in, with_last}
 use Rattle.wm_explore.specs.declared.state.State.{State}
 use Rattle.wm_explore.proofs.Beginnings.{count_at, kept_there, there_kept}
 use Rattle.wm_explore.proofs.Lists.{at_pushed, extended_at, extended_length, extended_other, extended_starts, kept_pushed, last_pushed, take_next}
@@ -116,10 +117,27 @@ module _ (s : State) (k : ℕ) (t : ThreadLog) (is : slice_get s.log k ≡ Some 
   is_state = record {
     started = ap starts_of is_child.log ∙ extended_starts k e s.log ∙ fine.started;
     listed = λ key there. listed key there (kept_or_new key (there_kept child.log key there));
-    events = λ i key at_key. arrived i key (at_pushed s.arrived (key_of e) i key (ap (λ ks. slice_get ks i) (sym is_child.arrived) ∙ at_key));
+    events = λ i key at_key. arrived i key (arrived_so i key at_key);
+    in_order = λ i j a b at_a at_b same le. in_order i j a b same le (arrived_so i a at_a) (arrived_so j b at_b);
     marked = λ i n at_mark. marked i n (is_child.marks i (Some n) at_mark);
   }
     where
+      arrived_so : (i : ℕ) (key : EventKey) → slice_get child.arrived i ≡ Some key → ((i ≡ length s.arrived) × (key ≡ key_of e)) ⊎ (slice_get s.arrived i ≡ Some key)
+      arrived_so i key at_key = at_pushed s.arrived (key_of e) i key (ap (λ ks. slice_get ks i) (sym is_child.arrived) ∙ at_key)
+
+      in_order : (i j : ℕ) (a b : EventKey) → a.thread ≡ b.thread → a.number ≤ b.number → ((i ≡ length s.arrived) × (a ≡ key_of e)) ⊎ (slice_get s.arrived i ≡ Some a)
+          → ((j ≡ length s.arrived) × (b ≡ key_of e)) ⊎ (slice_get s.arrived j ≡ Some b) → i ≤ j
+      in_order i j a b same le (inr old_a) (inr old_b) = fine.in_order i j a b old_a old_b same le
+      in_order i j a b same le (inr old_a) (inl last_b) = let lt = slice_get_within s.arrived i a old_a in let end = last_b.0 in omega (arith, lt, end)
+      in_order i j a b same le (inl last_a) (inl last_b) = let start = last_a.0 in let end = last_b.0 in omega (arith, start, end)
+      in_order i j a b same le (inl last_a) (inr old_b) =
+          let kept : IsTrue (is_kept (count_in s.log) b) = there_kept s.log b (fine.events j b old_b) in
+          let lt : b.number < count_in s.log b.thread = ltb-true b.number (count_in s.log b.thread) kept in
+          let here : b.thread ≡ k = sym same ∙ ap (λ (key : EventKey). key.thread) (last_a.1 ∙ named) in
+          let number : a.number ≡ length t.events = ap (λ (key : EventKey). key.number) (last_a.1 ∙ named) in
+          let count : count_in s.log b.thread ≡ length t.events = ap (count_in s.log) here ∙ count_here in
+          absurd (omega (arith, lt, number, count, le))
+
       length_now : length child.arrived ≡ length s.arrived + 1
       length_now = ap length is_child.arrived ∙ length-append s.arrived (key_of e ∷ [])
 
@@ -224,9 +242,32 @@ module _ (x : LoggedRun) (s : State) (on : GoesOn x s) (k : ℕ) (t : ThreadLog)
         events = child_events;
       };
       writers = λ r byte w there kept from. writer r byte w there from (kept_or_new s k t is e named starts fine child is_child r kept);
+      back = λ r w byte i j there from at_r at_w. back r w byte i j there from (arrived_so i r at_r) (arrived_so j w at_w);
       marks = child_marks;
     }
       where
+        arrived_so : (i : ℕ) (key : EventKey) → slice_get child.arrived i ≡ Some key → ((i ≡ length s.arrived) × (key ≡ key_of e)) ⊎ (slice_get s.arrived i ≡ Some key)
+        arrived_so i key at_key = at_pushed s.arrived (key_of e) i key (ap (λ ks. slice_get ks i) (sym is_child.arrived) ∙ at_key)
+
+        -- an event that writes a byte of one that has arrived is not the new one
+        not_new : (r : EventKey) (byte : ℕ) (w : EventKey) (i : ℕ) → IsSome (event_in x.log r) → ReadsFrom (execution x) r byte (At w) → ((i ≡ length s.arrived) × (r ≡ key_of e)) ⊎ (slice_get s.arrived i ≡ Some r) → w ≡ key_of e → ⊥
+        not_new r byte w i there from arrived_r last =
+            let kept : IsTrue (is_kept (count_in s.log) w) = in_state arrived_r in
+            let here : IsTrue (is_kept (count_in s.log) (next_key k t)) = subst (λ key. IsTrue (is_kept (count_in s.log) key)) (last ∙ named) kept in
+            let lt : length t.events < count_in s.log k = ltb-true (length t.events) (count_in s.log k) here in
+            let count = count_is in
+            omega (arith, lt, count)
+          where
+            in_state : ((i ≡ length s.arrived) × (r ≡ key_of e)) ⊎ (slice_get s.arrived i ≡ Some r) → IsTrue (is_kept (count_in s.log) w)
+            in_state (inr old) = on.writers r byte w there (there_kept s.log r (fine.events i r old)) from
+            in_state (inl new) = has byte w (subst (λ key. ReadsFrom (execution x) key byte (At w)) (new.1 ∙ named) from)
+
+        back : (r w : EventKey) (byte i j : ℕ) → IsSome (event_in x.log r) → ReadsFrom (execution x) r byte (At w) → ((i ≡ length s.arrived) × (r ≡ key_of e)) ⊎ (slice_get s.arrived i ≡ Some r)
+            → ((j ≡ length s.arrived) × (w ≡ key_of e)) ⊎ (slice_get s.arrived j ≡ Some w) → j < i
+        back r w byte i j there from arrived_r (inl last_w) = absurd (not_new r byte w i there from arrived_r last_w.1)
+        back r w byte i j there from (inr old_r) (inr old_w) = on.back r w byte i j there from old_r old_w
+        back r w byte i j there from (inl last_r) (inr old_w) = let lt = slice_get_within s.arrived j w old_w in let end = last_r.0 in omega (arith, lt, end)
+
         writer : (r : EventKey) (byte : ℕ) (w : EventKey) → IsSome (event_in x.log r) → ReadsFrom (execution x) r byte (At w) → IsTrue (is_kept (count_in s.log) r) ⊎ (r ≡ next_key k t) → IsTrue (is_kept (count_in child.log) w)
         writer r byte w there from (inl kept) = still_kept w (on.writers r byte w there kept from)
         writer r byte w there from (inr same) = still_kept w (has byte w (subst (λ key. ReadsFrom (execution x) key byte (At w)) same from))
@@ -239,6 +280,7 @@ module _ (x : LoggedRun) (s : State) (on : GoesOn x s) (k : ℕ) (t : ThreadLog)
   goes_on_marked starts fine marked same_log same_arrived marks lacks = record {
     beginning = subst (λ ts. IsBeginning ts x.log) (sym same_log) on.beginning;
     writers = subst (λ ts. HasItsWriters (execution x) (is_kept (count_in ts))) (sym same_log) on.writers;
+    back = subst (LooksBack (execution x)) (sym same_arrived) on.back;
     marks = λ i n at_mark. missed i n (marks i (Some n) at_mark);
   }
     where
@@ -264,6 +306,7 @@ marked_is_state starts s marked k fine same_log same_arrived marks = record {
   started = ap starts_of same_log ∙ fine.started;
   listed = λ key there. let old = fine.listed key (subst (λ ts. IsSome (event_in ts key)) same_log there) in (old.0, ap (λ ks. slice_get ks old.0) same_arrived ∙ old.1);
   events = λ i key at. subst (λ ts. IsSome (event_in ts key)) (sym same_log) (fine.events i key (ap (λ ks. slice_get ks i) (sym same_arrived) ∙ at));
+  in_order = subst ArriveInOrder (sym same_arrived) fine.in_order;
   marked = λ i n at. by i n (marks i (Some n) at);
 }
   where

@@ -65,6 +65,7 @@ module _ (starts : List Start) (s : State) (first : IsFirstState starts s) where
     started = ap starts_of first.log ∙ fresh_starts starts;
     listed = λ key there. absurd (no_event key there);
     events = λ i key at. absurd (none-some key (ap (λ ks. slice_get ks i) (sym first.arrived) ∙ at));
+    in_order = λ i j a b at_a at_b same le. absurd (none-some a (ap (λ ks. slice_get ks i) (sym first.arrived) ∙ at_a));
     marked = λ k n at. absurd (none-some n (sym (first.marks k (Some n) at)));
   }
 
@@ -81,6 +82,7 @@ module _ (starts : List Start) (s : State) (first : IsFirstState starts s) where
           ap (λ (v : ThreadLog). v.events) f.2 ∙ ap (λ (v : ThreadLog). take (length v.events) u.events) (sym f.2);
     };
     writers = λ r byte w there kept from. absurd (nothing r kept);
+    back = λ r w byte i j there from at_r at_w. absurd (none-some r (ap (λ ks. slice_get ks i) (sym first.arrived) ∙ at_r));
     marks = λ k n at. absurd (none-some n (sym (first.marks k (Some n) at)));
   }
     where

@@ -13,7 +13,10 @@ pub mod Finishing
 pub mod Waiting
 pub mod Highest
 pub mod Reading
+pub mod Timing
 pub mod Progressing
+pub mod AskingLaw
+pub mod JudgingLaw
 pub mod Making
 pub mod ReadsOf
 pub mod Extending

@@ -4,6 +4,7 @@ use Rattle.std.specs.Prelude.{◌≢◌, ◌⊎◌, All, slice_get}
 use Rattle.std.proofs.lemmas.Option.{get_or_from_slice_get, slice_get-get_or, slice_get_within}
 use Rattle.wm_ast.specs.declared.module.Module.{Module}
 use Rattle.wm_event.specs.LoggedRun.{LoggedRun, execution}
+use Rattle.wm_event.specs.declared.event.Event.{Event}
 use Rattle.wm_event.specs.declared.log.Start.{Start}
 use Rattle.wm_event.specs.declared.log.ThreadLog.{ThreadLog}
 use Rattle.wm_event.specs.declared.witness.Witness.{Witness}
@@ -12,8 +13,8 @@ use Rattle.wm_event.specs.Shape.{IsWellShaped}
 use Rattle.wm_replay.specs.Complete.{IsCompletion, IsWithoutRun}
 use Rattle.wm_replay.specs.declared.answer.ReplayAnswer.{ReplayAnswer}
 use Rattle.wm_explore.specs.Bounds.{IsExcused}
-use Rattle.wm_explore.specs.Executions.{IsExecutionOf, IsFinished, ends_of, starts_of}
-use Rattle.wm_explore.specs.Judging.{IsAllowedWith}
+use Rattle.wm_explore.specs.Executions.{IsCausal, IsExecutionOf, IsFinished, ends_of, starts_of}
+use Rattle.wm_explore.specs.Judging.{IsAllowedWith, LooksBack, run_with}
 use Rattle.wm_explore.specs.Search.{AreApart, Covers, Extends, IsFound, IsProgress, Lists, Takes}
 use Rattle.wm_explore.specs.Search.Covers.{left, listed, excused}
 use Rattle.wm_explore.specs.States.{GoesOn, IsState}
@@ -21,9 +22,10 @@ use Rattle.wm_explore.specs.Turns.{EachEndsIn}
 use Rattle.wm_explore.specs.declared.exploration.Finished.{Finished}
 use Rattle.wm_explore.specs.declared.search.Progress.{Progress}
 use Rattle.wm_explore.specs.declared.state.State.{State}
-use Rattle.wm_explore.proofs.Alike.{allowed_too}
+use Rattle.wm_explore.proofs.Alike.{allowed_too, events_of, holds_too, same_events}
 use Rattle.wm_explore.proofs.Finishing.{completed_finished, has_run, same_ends_too, same_events_too}
 use Rattle.wm_explore.proofs.Lists.{at_pushed, kept_pushed, last_pushed}
+use Rattle.wm_explore.proofs.Timing.{is_causal}
 use Rattle.wm_valid.proofs.Initial.{one_init}
 use Rattle.wm_valid.specs.Valid.{IsInit}
 
@@ -75,6 +77,17 @@ module _ (m : Module) (starts : List Start) (events : ℕ) (s : State) where
       found_before lists = extends p p progress (same_more events p) (λ x is causal on.
           listed (lists.0, lists.1, lists.2, lists.3 ∙ same_ends_too m starts x s is on ends completed completion))
 
+      -- what completes the log has its events
+      completion_alike : (cs ts : List ThreadLog) → length cs ≡ length ts → ((k : ℕ) (c t : ThreadLog) → slice_get cs k ≡ Some c → slice_get ts k ≡ Some t → c.events ≡ t.events) → events_of cs ≡ events_of ts
+      completion_alike [] [] count each = refl
+      completion_alike [] (t ∷ ts) count each = absurd (omega (arith, count))
+      completion_alike (c ∷ cs) [] count each = absurd (omega (arith, count))
+      completion_alike (c ∷ cs) (t ∷ ts) count each =
+          ap (λ (es : List Event). es ∷ events_of cs) (each 0 c t refl refl) ∙ ap (λ (ess : List (List Event)). t.events ∷ ess) (completion_alike cs ts (omega (arith, count)) (λ k. each (suc k)))
+
+      alike_here : events_of completed ≡ events_of s.log
+      alike_here = completion_alike completed s.log completion.count (λ k c t at_c at_t. (completion.threads k t c at_t at_c).events)
+
       started_too : starts_of completed ≡ starts
       started_too = same_starts completed s.log completion.count (λ k c t at_c at_t. (completion.threads k t c at_t at_c).start) ∙ fine.started
         where
@@ -87,28 +100,34 @@ module _ (m : Module) (starts : List Start) (events : ℕ) (s : State) where
 
       module _ (initial : List ℕ) (is_init : IsInit m initial) where
         -- no witness makes it valid
-        pub never : ((w : Witness) → IsAllowedWith completed initial w → ⊥) → Extends m starts events s p p
+        pub never : ((w : Witness) → IsAllowedWith completed initial w → LooksBack (execution (run_with completed initial w)) s.arrived → ⊥) → Extends m starts events s p p
         never none = extends p p progress (same_more events p) (λ x is causal on.
             let same : x.initial ≡ initial = one_init m x.initial initial is.initial is_init in
-            absurd (none x.witness (subst (λ i. IsAllowedWith completed i x.witness) same
-            (allowed_too x.log completed (same_events_too m starts x s is on ends completed completion) x.initial x.witness (is.shaped, is.valid)))))
+            let alike = same_events_too m starts x s is on ends completed completion in
+            absurd (none x.witness
+            (subst (λ i. IsAllowedWith completed i x.witness) same (allowed_too x.log completed alike x.initial x.witness (is.shaped, is.valid)))
+            (subst (λ i. LooksBack (execution (run_with completed i x.witness)) s.arrived) same (holds_too x.log completed alike (λ y. LooksBack y s.arrived) x.initial x.witness on.back))))
 
         -- with this witness it is
-        module _ (w : Witness) (allowed : IsAllowedWith completed initial w) (finished : IsFinished completed) (new : Lists p.finished.items (ends_of completed) → ⊥) (q : Progress) (same_work : q.work.items ≡ p.work.items)
+        module _ (w : Witness) (allowed : IsAllowedWith completed initial w) (back : LooksBack (execution (run_with completed initial w)) s.arrived) (finished : IsFinished completed) (new : Lists p.finished.items (ends_of completed) → ⊥) (q : Progress) (same_work : q.work.items ≡ p.work.items)
             (pushed : q.finished.items ≡ p.finished.items ++ record { log = completed; witness = w } ∷ []) (same_met : q.met ≡ p.met) where
           abbrev one : Finished
           one = record { log = completed; witness = w }
 
           is_found : IsFound m starts one
           is_found other is_other =
-              let same : initial ≡ other = one_init m initial other is_init is_other in record {
-                initial = is_other;
-                started = started_too;
-                runs = completion.are_runs;
-                finished = finished;
-                shaped = subst (λ i. IsWellShaped (record { log = completed; witness = w; initial = i })) same allowed.0;
-                valid = subst (λ i. IsValid (execution (record { log = completed; witness = w; initial = i }))) same allowed.1;
-              }
+              let same : initial ≡ other = one_init m initial other is_init is_other in (
+                record {
+                  initial = is_other;
+                  started = started_too;
+                  runs = completion.are_runs;
+                  finished = finished;
+                  shaped = subst (λ i. IsWellShaped (run_with completed i w)) same allowed.0;
+                  valid = subst (λ i. IsValid (execution (run_with completed i w))) same allowed.1;
+                },
+                subst (λ i. IsCausal (execution (run_with completed i w))) same
+                    (is_causal starts s fine (run_with completed initial w) (same_events completed s.log alike_here) allowed.0 back),
+              )
 
           apart : AreApart (p.finished.items ++ one ∷ [])
           apart i j f g lt at_f at_g = by (at_pushed p.finished.items one i f at_f) (at_pushed p.finished.items one j g at_g)

@@ -12,7 +12,7 @@ use Rattle.wm_event.specs.declared.witness.Witness.{Witness}
 use Rattle.wm_replay.specs.Continuing.{HasNextBy}
 use Rattle.wm_explore.specs.Executions.{IsCausal, IsExecutionOf}
 use Rattle.wm_explore.specs.Bounds.{IsExcused}
-use Rattle.wm_explore.specs.Judging.{IsAllowedWith}
+use Rattle.wm_explore.specs.Judging.{IsAllowedWith, LooksBack, run_with}
 use Rattle.wm_explore.specs.Search.{AddsPermitted, AreApart, Covers, Extends, IsFound, IsProgress, Keeps}
 use Rattle.wm_explore.specs.Search.Covers.{left}
 use Rattle.wm_explore.specs.States.{GoesOn, IsChild, IsMarked, IsState}
@@ -111,7 +111,7 @@ module _ (m : Module) (starts : List Start) (events : ℕ) (s : State) (fine : I
       met = λ log why. subst (λ b. IsExcused events b log) (sym same_met) why;
     }
 
-    read_pruned : next.work.items ≡ q.work.items → (initial : List ℕ) → IsInit m initial → ((w : Witness) → IsAllowedWith child.log initial w → ⊥) → ReadSoFar m starts events s k op p next values (n + 1)
+    read_pruned : next.work.items ≡ q.work.items → (initial : List ℕ) → IsInit m initial → ((w : Witness) → IsAllowedWith child.log initial w → LooksBack (execution (run_with child.log initial w)) child.arrived → ⊥) → ReadSoFar m starts events s k op p next values (n + 1)
     read_pruned same_work initial is_init none = record {
       progress = record {
         states = subst (All (IsState starts)) (sym same_work) so.progress.states;
@@ -121,8 +121,9 @@ module _ (m : Module) (starts : List Start) (events : ℕ) (s : State) (fine : I
       keeps = λ x is causal covers. covers_more events q next (same_more same_work) x (so.keeps x is causal covers);
       waits = λ x is causal on u at lacks. covers_more events q next (same_more same_work) x (so.waits x is causal on u at lacks);
       reads = reads_one_more (same_more same_work) (λ x is on.
-          let w = permitted m starts x child is on in
-          absurd (none w.0 (subst (λ i. IsAllowedWith child.log i w.0) (one_init m x.initial initial is.initial is_init) w.1)));
+          let w = permitted m starts x child is (is_state s k t at_t (event_made (record { thread = k; number = length t.events }) op r) refl starts fine child is_child) on in
+          let same : x.initial ≡ initial = one_init m x.initial initial is.initial is_init in
+          absurd (none w.0 (subst (λ i. IsAllowedWith child.log i w.0) same w.1) (subst (λ i. LooksBack (execution (run_with child.log i w.0)) child.arrived) same w.2)));
     }
 
     pub read_more : (initial : List ℕ) → IsInit m initial → AddsPermitted initial child q.work.items next.work.items → ReadSoFar m starts events s k op p next values (n + 1)

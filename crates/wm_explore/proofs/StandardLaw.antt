@@ -7,7 +7,7 @@ use Rattle.wm_standard.specs.Agreement.{Ends, ValuesEnd}
 use Rattle.wm_standard.specs.Agreement.Ends.{ends}
 use Rattle.wm_standard.proofs.Agreement.{to-standard}
 use Rattle.wm_explore.specs.Executions.{HasTimes, IsCausal}
-use Rattle.wm_explore.specs.Standard.{CausalIsStandard}
+use Rattle.wm_explore.specs.Standard.{CausalIsStandard, ExploredIsStandard}
 
 -- what comes later cannot be read, so no chain of reads goes on for ever
 ends_by : (x : Execution) (time : EventKey → ℕ) → HasTimes x time → (n : ℕ) (r : EventKey) → time r < n → IsSome (x.event_of r) → Ends x r
@@ -21,3 +21,8 @@ values_end x causal r there = ends_by x causal.0 causal.1 (suc (causal.0 r)) r (
 
 pub causal-is-standard : CausalIsStandard
 causal-is-standard run ops shape fitting large causal valid = to-standard run ops shape fitting large valid (values_end (execution run) causal)
+
+pub explored-is-standard : ExploredIsStandard
+explored-is-standard m starts f initial ops found is_init fitting large =
+    let is = found initial is_init in
+    causal-is-standard _ ops is.0.shaped fitting large is.1 is.0.valid

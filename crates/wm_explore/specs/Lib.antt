@@ -4,6 +4,7 @@ pub mod Values
 pub mod Bounds
 pub mod Turns
 pub mod Judging
+pub mod Asking
 pub mod Idle
 pub mod Uniform
 pub mod Search

@@ -14,7 +14,7 @@ use Rattle.wm_explore.specs.Bounds.{IsExcused}
 use Rattle.wm_explore.specs.Executions.{IsCausal, IsExecutionOf, IsOutcome, IsOutcomeWithin, ends_of}
 use Rattle.wm_event.specs.declared.witness.Witness.{Witness}
 use Rattle.wm_explore.specs.Idle.{StandsFor}
-use Rattle.wm_explore.specs.Judging.{IsAllowedWith}
+use Rattle.wm_explore.specs.Judging.{IsAllowedWith, LooksBack, run_with}
 use Rattle.wm_explore.specs.States.{GoesOn, IsState}
 use Rattle.wm_valid.specs.Valid.{IsInit}
 
@@ -24,9 +24,9 @@ use Rattle.wm_valid.specs.Valid.{IsInit}
 abbrev pub Lists : List Finished → List End → Type 0
 Lists finished ends = (i : ℕ) × (f : Finished) × (slice_get finished i ≡ Some f) × (ends_of f.log ≡ ends)
 
--- it is a valid execution of the module over its initial memory in which each thread has ended
+-- over the initial memory of the module it is a valid and causal execution of it in which each thread has ended
 abbrev pub IsFound : Module → List Start → Finished → Type 0
-IsFound m starts f = (initial : List ℕ) → IsInit m initial → IsExecutionOf m starts (record { log = f.log; witness = f.witness; initial = initial })
+IsFound m starts f = (initial : List ℕ) → IsInit m initial → IsExecutionOf m starts (run_with f.log initial f.witness) × IsCausal (execution (run_with f.log initial f.witness))
 
 -- no two have the same ends
 abbrev pub AreApart : List Finished → Type 0
@@ -67,9 +67,10 @@ pub record Extends (m : Module) (starts : List Start) (events : ℕ) (s : State)
 abbrev pub IsStep : Module → ℕ → State → Progress → Progress → Type 0
 IsStep m events s p q = (starts : List Start) → IsState starts s → IsProgress m starts p → Extends m starts events s p q
 
--- the child was added, or no witness makes its log valid
+-- the child was added, or no witness that looks back makes its log valid
 abbrev pub AddsPermitted : List ℕ → State → List State → List State → Type 0
-AddsPermitted initial child old new = (new ≡ old ++ child ∷ []) ⊎ ((new ≡ old) × ((witness : Witness) → IsAllowedWith child.log initial witness → ⊥))
+AddsPermitted initial child old new =
+    (new ≡ old ++ child ∷ []) ⊎ ((new ≡ old) × ((witness : Witness) → IsAllowedWith child.log initial witness → LooksBack (execution (run_with child.log initial witness)) child.arrived → ⊥))
 
 -- the threads are started so, and nothing has happened
 pub record IsFirstState (starts : List Start) (s : State) : Type 0 where
@@ -79,8 +80,8 @@ pub record IsFirstState (starts : List Start) (s : State) : Type 0 where
 
 -- ---- an exploration
 
--- each execution that was found is valid; no two have the same ends; without a bound each outcome was found; with a bound of a
--- thread each outcome within the bounds
+-- each execution that was found is valid and causal; no two have the same ends; without a bound each outcome was found; with a
+-- bound of a thread each outcome within the bounds
 pub record Explores (m : Module) (starts : List Start) (events : ℕ) (e : Exploration) : Type 0 where
   pub found : All (IsFound m starts) e.finished
   pub apart : AreApart e.finished

@@ -11,6 +11,7 @@ use Rattle.wm_event.specs.declared.event.EventKey.{EventKey}
 use Rattle.wm_event.specs.declared.log.Start.{Start}
 use Rattle.wm_event.specs.declared.log.ThreadLog.{ThreadLog}
 use Rattle.wm_explore.specs.Executions.{starts_of}
+use Rattle.wm_explore.specs.Judging.{LooksBack}
 use Rattle.wm_explore.specs.declared.state.State.{State}
 use Rattle.wm_part.specs.Cut.{is_kept}
 use Rattle.wm_part.specs.Part.{HasItsWriters}
@@ -56,15 +57,22 @@ HasArrived arrived n key = (i : ℕ) × (i < n) × (slice_get arrived i ≡ Some
 abbrev pub IsMissed : LoggedRun → State → ℕ → ℕ → Type 0
 IsMissed x s k n = (byte : ℕ) × (w : EventKey) × ReadsFrom (execution x) record { thread = k; number = count_in s.log k } byte (At w) × (HasArrived s.arrived n w → ⊥)
 
--- x has the state's events first, with the events that wrote their bytes, and its marks hold
+-- x has the state's events first, with the events that wrote their bytes, which arrived before them, and its marks hold
 pub record GoesOn (x : LoggedRun) (s : State) : Type 0 where
   pub beginning : IsBeginning s.log x.log
   pub writers : HasItsWriters (execution x) (is_kept (count_in s.log))
+  pub back : LooksBack (execution x) s.arrived
   pub marks : (k n : ℕ) → slice_get s.marks k ≡ Some (Some n) → IsMissed x s k n
 
--- the threads are started so, the events that have arrived are those of the log, and a mark counts some of them
+-- of two events of a thread the later one did not arrive earlier
+abbrev pub ArriveInOrder : List EventKey → Type 0
+ArriveInOrder arrived = (i j : ℕ) (a b : EventKey) → slice_get arrived i ≡ Some a → slice_get arrived j ≡ Some b → a.thread ≡ b.thread → a.number ≤ b.number → i ≤ j
+
+-- the threads are started so, the events that have arrived are those of the log, in the order of their threads, and a mark
+-- counts some of them
 pub record IsState (starts : List Start) (s : State) : Type 0 where
   pub started : starts_of s.log ≡ starts
   pub listed : (key : EventKey) → IsSome (event_in s.log key) → (i : ℕ) × (slice_get s.arrived i ≡ Some key)
   pub events : (i : ℕ) (key : EventKey) → slice_get s.arrived i ≡ Some key → IsSome (event_in s.log key)
+  pub in_order : ArriveInOrder s.arrived
   pub marked : (k n : ℕ) → slice_get s.marks k ≡ Some (Some n) → n ≤ length s.arrived

@@ -121,7 +121,8 @@ fn finish(
     if is_listed(progress.finished.as_slice(), &log) {
         return Ok(());
     }
-    match judged(alloc, &log, module.initial(), nodes)? {
+    let arrived = state.arrived.as_slice();
+    match judged(alloc, &log, arrived, module.initial(), nodes)? {
         Permission::With(witness) => progress.finished.push(Finished { log, witness })?,
         Permission::Never => {}
         Permission::Unknown => progress.meet(Bound::Nodes),
@@ -170,7 +171,7 @@ fn add_permitted(
     ensures met { OnOk result (progress.new.met ≡ progress.old.met) }
     ensures added { OnOk result (AddsPermitted initial.now child progress.old.work.items progress.new.work.items) }
 {
-    match judged(alloc, &child.log, initial, nodes)? {
+    match judged(alloc, &child.log, child.arrived.as_slice(), initial, nodes)? {
         Permission::Never => {}
         Permission::With(_) | Permission::Unknown => progress.work.push(child)?,
     }

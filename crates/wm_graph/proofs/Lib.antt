@@ -1,2 +1,3 @@
 mod ColumnLaws
+mod CycleLaws
 mod EdgeLaws

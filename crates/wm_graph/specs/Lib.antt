@@ -1,4 +1,6 @@
 pub mod Chains
 pub mod Columns
+pub mod Cycle
 pub mod Edges
+pub mod Sequential
 pub mod Shown

@@ -86,7 +86,7 @@ fn add_gap(
     let (from, to) = (NodeName(last), NodeName(next));
     writeln!(
         text,
-        "    {from} -> {to} [label=\"sb, {left_out} left out\", style=\"dashed\"];"
+        "    {from} -> {to} [xlabel=\"sb, {left_out} left out\", style=\"dashed\"];"
     )
 }
 
@@ -258,7 +258,8 @@ impl<'a> Sketch<'a> {
     /// for sequenced-before (`sb`), reads-from (`rf`, with the bytes if a read has several writers), synchronizes-with
     /// (`sw`), and for the order if it contradicts one of these. The events of a fault and the chains of happens-before
     /// that it rests on are red, with what else it needs: the order of its writes, and that one overwrites the other
-    /// (`co`) after the read took its byte (`fr`). If a thread differs from its log, that thread is red, with what the
+    /// (`co`) after the read took its byte (`fr`). The edges of a cycle that shows that the execution is not sequentially
+    /// consistent are wide. If a thread differs from its log, that thread is red, with what the
     /// module does instead. The label of a read from Init states that; the read has an edge only if it is the fault.
     ///
     /// # Errors
@@ -273,7 +274,7 @@ impl<'a> Sketch<'a> {
             add_column(&mut text, number, column, self, caption, &mut places)?;
         }
         let drawn = drawn_edges(alloc, picture, self.breach)?;
-        add_lines(&mut text, drawn.as_slice(), picture.shown.has_all())?;
+        add_lines(&mut text, drawn.as_slice())?;
         text.push_str("}\n")?;
         Ok(text)
     }
@@ -287,6 +288,6 @@ fn begin(alloc: Global, caption: Caption, shown: &Shown) -> Result<String, Alloc
         total: shown.total,
     };
     format!(in alloc;
-        "digraph execution {{\n  label=\"{title}{count}\";\n  labelloc=\"t\";\n  nodesep=0.6;\n  ranksep=0.7;\n  fontname=\"monospace\";\n  node [shape=\"box\", fontname=\"monospace\"];\n  edge [fontname=\"monospace\"];\n"
+        "digraph execution {{\n  label=\"{title}{count}\";\n  labelloc=\"t\";\n  nodesep=1.4;\n  ranksep=0.7;\n  fontname=\"monospace\";\n  node [shape=\"box\", fontname=\"monospace\"];\n  edge [fontname=\"monospace\"];\n"
     )
 }

@@ -1,5 +1,6 @@
 //! The edges of a picture that are drawn.
 
+use crate::cycle_edge::CycleKind;
 use crate::edges::{Edge, EdgeKind};
 use crate::picture::Picture;
 use crate::shown::Shown;
@@ -15,6 +16,8 @@ pub(crate) enum DrawnKind {
     Edge(EdgeKind),
     /// A link of a chain that the fault rests on.
     Link(LinkKind),
+    /// An edge of the cycle.
+    Cycle(CycleKind),
 }
 
 /// An edge or a link of a picture.
@@ -84,8 +87,25 @@ fn add_links(
     Ok(())
 }
 
-/// What is drawn between the events that are shown: the edges to events, then the chains, and then the other edges that
-/// the fault needs.
+/// Adds the edges of the cycle.
+fn add_cycle(
+    drawn: &mut Vec<DrawnEdge>,
+    shown: &Shown,
+    picture: &Picture,
+) -> Result<(), AllocError> {
+    let Some(cycle) = &picture.cycle else {
+        return Ok(());
+    };
+    for edge in cycle.as_slice() {
+        let (from, to) = (EventId::At(edge.from), edge.to);
+        let kind = DrawnKind::Cycle(edge.kind);
+        add_shown(drawn, shown, DrawnEdge { from, to, kind })?;
+    }
+    Ok(())
+}
+
+/// What is drawn between the events that are shown: the edges to events, then the chains, then the other edges that the
+/// fault needs, and then the cycle.
 ///
 /// # Errors
 ///
@@ -100,5 +120,6 @@ pub(crate) fn drawn_edges(
     add_edges(&mut drawn, shown, picture.edges.as_slice(), breach)?;
     add_links(&mut drawn, shown, picture)?;
     add_edges(&mut drawn, shown, picture.fault_edges.as_slice(), breach)?;
+    add_cycle(&mut drawn, shown, picture)?;
     Ok(drawn)
 }

@@ -83,7 +83,7 @@ fn add_order_of_writes(
 }
 
 /// Whether a byte of a read has this writer.
-fn is_writer(candidate: &Candidate, reader: EventKey, byte: u8, writer: EventId) -> bool
+pub(crate) fn is_writer(candidate: &Candidate, reader: EventKey, byte: u8, writer: EventId) -> bool
     ensures { IsTrue result → ReadsFrom (execution candidate.now) reader byte writer }
 {
     match candidate.writers(reader).get(usize::from(byte)) {

@@ -1,5 +1,6 @@
 //! The lines of a picture: all edges from one node to another share one line.
 
+use crate::cycle_edge::CycleKind;
 use crate::drawn::{DrawnEdge, DrawnKind};
 use crate::edges::{EdgeKind, ReadsFrom};
 use crate::label::NodeName;
@@ -42,6 +43,8 @@ struct Relations {
     order: bool,
     /// Whether the line belongs to a chain that the fault rests on.
     in_chain: bool,
+    /// Whether the line belongs to the cycle.
+    in_cycle: bool,
 }
 
 impl Relations {
@@ -56,6 +59,7 @@ impl Relations {
             from_read: false,
             order: false,
             in_chain: false,
+            in_cycle: false,
         }
     }
 
@@ -83,11 +87,23 @@ impl Relations {
         }
     }
 
+    /// Adds the relation of an edge of the cycle; the bytes that are read have an edge of their own.
+    fn add_cycle(&mut self, kind: CycleKind) {
+        self.in_cycle = true;
+        match kind {
+            CycleKind::Sequenced => self.sequenced = true,
+            CycleKind::ReadsFrom => self.reads = true,
+            CycleKind::Coherence => self.coherence = true,
+            CycleKind::FromRead => self.from_read = true,
+        }
+    }
+
     /// Adds the relation of something drawn.
     fn add(&mut self, kind: DrawnKind) {
         match kind {
             DrawnKind::Edge(kind) => self.add_edge(kind),
             DrawnKind::Link(kind) => self.add_link(kind),
+            DrawnKind::Cycle(kind) => self.add_cycle(kind),
         }
     }
 
@@ -103,10 +119,19 @@ impl Relations {
         ]
     }
 
-    /// The attributes of a line, without its label.
+    /// The width of a line, if it is a wide one.
+    fn width(self) -> &'static str {
+        if self.in_chain || self.in_cycle {
+            ", penwidth=2"
+        } else {
+            ""
+        }
+    }
+
+    /// The attributes of a line, without its label and its width.
     fn style(self) -> &'static str {
         if self.in_chain {
-            return ", color=\"red\", fontcolor=\"red\", penwidth=2";
+            return ", color=\"red\", fontcolor=\"red\"";
         }
         if self.synchronizes {
             return ", color=\"blue\", fontcolor=\"blue\"";
@@ -118,7 +143,7 @@ impl Relations {
             return ", style=\"dashed\", color=\"brown\", fontcolor=\"brown\"";
         }
         if self.from_read {
-            return ", style=\"dashed\", color=\"purple\", fontcolor=\"purple\", tailport=s, headport=s";
+            return ", style=\"dashed\", color=\"purple\", fontcolor=\"purple\"";
         }
         if self.order {
             return ", style=\"dotted\"";
@@ -134,8 +159,68 @@ struct Line<'a> {
     to: EventKey,
     /// All edges that are drawn.
     edges: &'a [DrawnEdge],
-    /// Whether the picture shows all events.
-    is_whole: bool,
+}
+
+/// How a line is drawn, so that it passes beside the nodes and its label beside the lines. Graphviz fails on some
+/// pictures ("trouble in init_rank") if such a line has a `label`, which takes up space.
+#[derive(Clone, Copy)]
+enum Course {
+    /// From Init, or down to the next node of a column.
+    Down,
+    /// From one side of a node to a side of another; the label is beside its start.
+    Across {
+        sides: &'static str,
+        /// Whether the label is to the right of the line, seen from its start.
+        is_label_right: bool,
+    },
+}
+
+impl Course {
+    /// The course from one event to another.
+    fn between(from: EventKey, to: EventKey) -> Course {
+        if from.thread == to.thread && from.number.checked_add(1) == Some(to.number) {
+            return Course::Down;
+        }
+        let leads_left = to.thread < from.thread;
+        let sides = if leads_left {
+            "tailport=w, headport=e"
+        } else if from.thread == to.thread {
+            "tailport=e, headport=e"
+        } else {
+            "tailport=e, headport=w"
+        };
+        let is_label_right = if from.number == to.number {
+            from.thread.abs_diff(to.thread) > 1
+        } else {
+            (to.number < from.number) != leads_left
+        };
+        Course::Across {
+            sides,
+            is_label_right,
+        }
+    }
+
+    /// What the attribute with the label is called.
+    fn label(self) -> &'static str {
+        match self {
+            Course::Down => "xlabel",
+            Course::Across { .. } => "taillabel",
+        }
+    }
+}
+
+impl fmt::Display for Course {
+    fn fmt<W: fmt::Write>(&self, f: &mut fmt::Formatter<W>) -> fmt::Result {
+        let Course::Across {
+            sides,
+            is_label_right,
+        } = *self
+        else {
+            return Ok(());
+        };
+        let angle = if is_label_right { "-40" } else { "40" };
+        write!(f, ", {sides}, labeldistance=4, labelangle={angle}")
+    }
 }
 
 impl Line<'_> {
@@ -144,14 +229,11 @@ impl Line<'_> {
         edge.from == self.from && edge.to == self.to
     }
 
-    /// Whether the nodes may be in one row. Graphviz fails on some pictures ("trouble in init_rank") if such a line has a
-    /// `label`, which takes up space, and not an `xlabel`. If all events are shown, each is in the row of its number.
-    fn may_be_level(&self) -> bool {
+    /// How it is drawn.
+    fn course(&self) -> Course {
         match self.from {
-            EventId::Init => false,
-            EventId::At(from) => {
-                from.thread != self.to.thread && (!self.is_whole || from.number == self.to.number)
-            }
+            EventId::Init => Course::Down,
+            EventId::At(from) => Course::between(from, self.to),
         }
     }
 
@@ -205,33 +287,25 @@ impl fmt::Display for Line<'_> {
         } else {
             ", constraint=false"
         };
-        let label = if self.may_be_level() {
-            "xlabel"
-        } else {
-            "label"
-        };
-        write!(f, "  {from} -> {to} [{label}=\"")?;
+        let course = self.course();
+        write!(f, "  {from} -> {to} [{}=\"", course.label())?;
         self.write_label(f)?;
-        write!(f, "\"{}{place}];", relations.style())
+        let (style, width) = (relations.style(), relations.width());
+        write!(f, "\"{style}{width}{course}{place}];")
     }
 }
 
-/// Adds the lines of what is drawn; `is_whole` if the picture shows all events.
+/// Adds the lines of what is drawn.
 ///
 /// # Errors
 ///
 /// Only if an allocation fails.
-pub(crate) fn add_lines(
-    text: &mut String,
-    edges: &[DrawnEdge],
-    is_whole: bool,
-) -> Result<(), AllocError> {
+pub(crate) fn add_lines(text: &mut String, edges: &[DrawnEdge]) -> Result<(), AllocError> {
     for (number, edge) in edges.iter().enumerate() {
         let line = Line {
             from: edge.from,
             to: edge.to,
             edges,
-            is_whole,
         };
         let is_first = !edges
             .iter()

@@ -10,7 +10,7 @@ use wm_hb::FaultChain;
 use wm_list::List;
 
 /// Up to this number of events, all are shown.
-const MAX_SHOWN: usize = 60;
+pub(crate) const MAX_SHOWN: usize = 60;
 
 /// What a picture shows of the fault of a rule.
 #[derive(Clone, Copy)]
@@ -52,11 +52,6 @@ fn is_marked(marks: &[List<bool>], key: EventKey) -> bool
 }
 
 impl Shown {
-    /// Whether all events are shown.
-    pub(crate) fn has_all(&self) -> bool {
-        self.marks.is_none()
-    }
-
     /// Whether a listed event is shown.
     pub(crate) fn has_listed(&self, key: EventKey) -> bool
         ensures { IsTrue result ↔ IsShown self.now key }

@@ -35,6 +35,8 @@ use Rattle.wm_litmus.specs.Races.{AnswersEventRaces, AnswersRaces, races_status}
 use Rattle.wm_litmus.specs.Races.AnswersEventRaces.{listed as event_races_listed, told as event_races_told}
 use Rattle.wm_litmus.specs.Races.AnswersRaces.{listed as races_listed, told as races_told}
 use Rattle.wm_litmus.specs.Replies.{Given, IsAnswer, IsWitnessAnswer}
+use Rattle.wm_litmus.specs.LineWitness.{AnswersLineWitness}
+use Rattle.wm_litmus.specs.LineWitness.AnswersLineWitness.{searched as line_searched, without_run as line_without_run, misshapen as line_misshapen, no_document as line_no_document}
 use Rattle.wm_litmus.specs.Replies.IsAnswer.{document_task_of, drive_of, explore_of, help_of, no_command, run_of, run_task_of, stream_of, trace_of, version_of, witness_of, witnesses_of}
 use Rattle.wm_litmus.specs.Replies.IsWitnessAnswer.{of_run as witness_of_run, of_document as witness_of_document, no_nodes}
 use Rattle.wm_litmus.specs.Rounds.{AnswersRounds, IsRoundsAnswer}
@@ -158,6 +160,12 @@ of_witness_words words files input status text (witness_of_run file document nod
 of_witness_words words files input status text (witness_of_document document nodes bytes spelled read answers) = of_event_witness status text nodes bytes answers
 of_witness_words words files input status text (no_nodes none is line) = omega (arith, is)
 
+pub of_line_witness : (status : ℕ) (text : List ℕ) (m : Module) (line : List ℕ) → AnswersLineWitness m line status text → status < 3
+of_line_witness status text m line (line_searched log completed own r document completion initial start answers) = of_search status text r _ answers
+of_line_witness status text m line (line_without_run log own answer document none is text_is) = omega (arith, is)
+of_line_witness status text m line (line_misshapen log completed own r fault document completion initial start first is text_is) = omega (arith, is)
+of_line_witness status text m line (line_no_document fault none is text_is) = omega (arith, is)
+
 -- ---- the statuses of scripts and rounds
 
 of_drive : (status : ℕ) (text bytes : List ℕ) (plan : Plan) (turns : List Turn) → AnswersDrive bytes plan turns status text → status < 3
@@ -206,7 +214,7 @@ below_three given status text (no_command none is line) = omega (arith, is)
 below_three given status text (run_task_of task file document command answer) = of_run_task status text task answer.module_bytes answer.document_bytes answer.answers
 below_three given status text (document_task_of task document command answer) = of_document_task status text task answer.bytes answer.answers
 below_three given status text (witness_of words command answers) = of_witness_words words _ _ status text answers
-below_three given status text (stream_of file bytes command read answers) = omega (arith, answers.status_is, of_line (worse answers.own (overall answers.answers)))
+below_three given status text (stream_of asked file bytes command read answers) = omega (arith, answers.status_is, of_line (worse answers.own (overall answers.answers)))
 below_three given status text (drive_of file turns command answers) = of_script AnswersDrive _ _ _ status text (λ bytes plan turns. of_drive status text bytes plan turns) answers
 below_three given status text (trace_of file turns command answers) = of_script AnswersTrace _ _ _ status text (λ bytes plan turns. of_trace status text bytes plan turns) answers
 below_three given status text (run_of file rounds command answers) = of_rounds_words _ _ _ status text answers

@@ -16,6 +16,7 @@ pub mod Prints
 pub mod Races
 pub mod Rules
 pub mod Serving
+pub mod LineWitness
 pub mod Stream
 pub mod Table
 pub mod Tasks

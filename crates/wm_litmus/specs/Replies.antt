@@ -6,6 +6,7 @@ use Rattle.wm_decode.specs.Bounds.{max_module_bytes}
 use Rattle.clap.specs.Words.{Text}
 use Rattle.wm_command.specs.declared.command.Command.TheVariants.{OfRun, OfDocument, Witness, Stream, Drive, Trace, Run, Explore, Witnesses, Help, Version}
 use Rattle.wm_command.specs.declared.command.DocumentTask.{DocumentTask}
+use Rattle.wm_command.specs.declared.command.LineTask.{LineTask}
 use Rattle.wm_command.specs.declared.command.RunTask.{RunTask}
 use Rattle.wm_command.specs.declared.command.WitnessWords.{WitnessWords}
 use Rattle.wm_command.specs.declared.fault.WordFault.TheVariants.{Nodes}
@@ -71,9 +72,9 @@ pub data IsAnswer (given : Given) (status : ℕ) (text : List ℕ) : Type 0 wher
       → IsDocumentAnswer task given.files given.input document.now status text → IsAnswer given status text
   witness_of : (words : WitnessWords) → IsCommand given.words (Witness words)
       → IsWitnessAnswer words given.files given.input status text → IsAnswer given status text
-  stream_of : (file : Bor Text) (module_bytes : List ℕ) → IsCommand given.words (Stream file)
+  stream_of : (task : LineTask) (file : Bor Text) (module_bytes : List ℕ) → IsCommand given.words (Stream task file)
       → IsReadOf (given.files file.now) max_module_bytes module_bytes
-      → AnswersStream module_bytes given.input status text → IsAnswer given status text
+      → AnswersStream task module_bytes given.input status text → IsAnswer given status text
   drive_of : (file turns : Bor Text) → IsCommand given.words (Drive file turns)
       → IsScriptAnswer AnswersDrive (given.files file.now) turns.now (drop 3 given.words) status text → IsAnswer given status text
   trace_of : (file turns : Bor Text) → IsCommand given.words (Trace file turns)
@@ -99,9 +100,9 @@ pub data WritesFront (given : Given) (old new : Option (List ℕ)) : Type 0 wher
   nothing : new ≡ old → WritesFront given old new
   front : (status : ℕ) (text : List ℕ) → IsAnswer given status text
       → AppendsFront old new text → WritesFront given old new
-  first_lines : (file : Bor Text) (module_bytes text : List ℕ) → IsCommand given.words (Stream file)
+  first_lines : (task : LineTask) (file : Bor Text) (module_bytes text : List ℕ) → IsCommand given.words (Stream task file)
       → IsReadOf (given.files file.now) max_module_bytes module_bytes
-      → AnswersFirstLines module_bytes given.input text
+      → AnswersFirstLines task module_bytes given.input text
       → AppendsFront old new text → WritesFront given old new
 
 -- below status 3 the writer gains the answer

@@ -1,5 +1,5 @@
 -- The answers of the command `witness`.
-use Rattle.std.specs.Prelude.{◌≡◌, ◌≢◌, ℕ, List, ◌++◌, codes, length, string_bytes, Result, Ok, Err}
+use Rattle.std.specs.Prelude.{◌≡◌, ◌≢◌, ℕ, List, [], ◌++◌, codes, length, string_bytes, Result, Ok, Err}
 use Rattle.std.specs.Fmt.{decimal}
 use Rattle.wm_ast.specs.declared.module.Module.{Module}
 use Rattle.wm_check.specs.declared.verdict.Breach.TheVariants.{Replay}
@@ -47,7 +47,7 @@ pub data AnswersSearch (run : LoggedRun) (nodes status : ℕ) (text : List ℕ) 
   found : (witness : Witness) → IsWellShaped (with_witness run witness) → IsValid (execution (with_witness run witness))
       → status ≡ 0 → text ≡ ended (compact_text (document_2 run.log witness)) → AnswersSearch run nodes status text
   none : IsNeverValid run → status ≡ 1 → text ≡ ended (no_witness_text (length run.log) (event_count run.log)) → AnswersSearch run nodes status text
-  gave_up : IsLeftOpen run nodes → status ≡ 2 → text ≡ ended (gave_up_text nodes) → AnswersSearch run nodes status text
+  gave_up : IsLeftOpen run [] nodes → status ≡ 2 → text ≡ ended (gave_up_text nodes) → AnswersSearch run nodes status text
 
 -- a log over an initial memory, with a witness from which a search starts
 pub record IsStart (log : List ThreadLog) (initial : List ℕ) (run : LoggedRun) : Type 0 where

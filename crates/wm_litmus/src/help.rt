@@ -25,11 +25,12 @@ COMMANDS
     complete MODULE DOC              print a log with the steps and ends that its module gives it
     verify MODULE DOC                complete a log, and check it
     stream MODULE                    verify each line of standard input as a log; answer each by a line
+    decide MODULE                    complete each line so, and find a witness or show that there is none
     migrate DOC                      print a log in version 2 of its format
     drive MODULE TURNS START..       run threads by a script; print the outcome and the log
     trace MODULE TURNS START..       show what each turn of a script did, and the outcome
     run MODULE ROUNDS START..        run threads in parallel; check each log and count the outcomes
-    explore MODULE EVENTS START..    list outcomes that the rules permit of a module, and all causal ones
+    explore MODULE EVENTS START..    list the outcomes that the rules permit of a module's causal executions
     witnesses MODULE EVENTS START..  print a log for each of these outcomes
     help                             print this text
     version                          print the versions of the program, the log format and the logic
@@ -54,6 +55,7 @@ EXAMPLES
     wmlab complete store-buffering.wasm recorded.json > completed.json
     wmlab verify store-buffering.wasm recorded.json
     wmlab stream store-buffering.wasm < recorded.jsonl > answers.txt
+    wmlab decide store-buffering.wasm < recorded.jsonl > witnesses.jsonl
     wmlab migrate version-1.json > version-2.json
     wmlab drive store-buffering.wasm 0*3,d0,0*3,1*6 a b
     wmlab trace store-buffering.wasm 0*3,d0,0*3,1*6 a b

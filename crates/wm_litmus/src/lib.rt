@@ -35,6 +35,7 @@ mod files;
 mod help;
 mod input;
 mod line;
+mod line_witness;
 mod migration;
 mod outcomes;
 mod own;

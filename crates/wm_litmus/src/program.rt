@@ -30,8 +30,8 @@ use std::io::{Read, Write};
 use std::sync::Wait;
 use std::thread::Threads;
 use wm_command::{
-    Command, CommandFault, DocumentTask, RunTask, WitnessWords, read_command, read_exploration,
-    read_rounds, read_script,
+    Command, CommandFault, DocumentTask, LineTask, RunTask, WitnessWords, read_command,
+    read_exploration, read_rounds, read_script,
 };
 use wm_decode::MAX_MODULE_BYTES;
 use wm_logfile::MAX_DOCUMENT_BYTES;
@@ -334,25 +334,26 @@ fn exploration_of<'a, R: AllocGlobal, F: Files>(
     }
 }
 
-/// Answers each line of the input as a document over the module `name`, and returns the status of all answers and of
+/// Answers what is asked of each line of the input, a document over the module `name`, and returns the status of all answers and of
 /// the module by itself.
 fn stream_lines<'a, R: AllocGlobal + Threads + Sync, F: Files, I: Read, O: Write>(
     rt: &R,
     files: &mut F,
+    task: LineTask,
     name: &'a str,
     input: &mut I,
     out: &mut O,
 ) -> Result<u8, Failure<'a>>
     requires { F.failures_of files.old + 1 < 2 ^ 64 }
-    ensures answered { IfOk result (λ status. StreamsAll
+    ensures answered { IfOk result (λ status. StreamsAll task
         (F.content_of files.old name.now) (I.remaining input.old) (O.contents out.old) (O.contents out.new) status) }
-    ensures stopped { OnErr result (StreamsFront
+    ensures stopped { OnErr result (StreamsFront task
         (F.content_of files.old name.now) (I.remaining input.old) (O.contents out.old) (O.contents out.new)) }
     ensures unread { IfErr result (λ stop. IsUnreadFile stop
         → F.failures_of files.old < F.failures_of files.new) }
 {
     let bytes = read_file(files, name, MAX_MODULE_BYTES)?;
-    let judge = judge_of(rt.alloc(), bytes.as_slice())?;
+    let judge = judge_of(rt.alloc(), task, bytes.as_slice())?;
     let own = judge.status();
     let answered = answer_lines(rt, input, out, &judge, MAX_DOCUMENT_BYTES + 1);
     drop(judge);
@@ -365,8 +366,8 @@ fn stream_lines<'a, R: AllocGlobal + Threads + Sync, F: Files, I: Read, O: Write
 enum Reply<'a> {
     /// An answer, which is written completely.
     Answer(Answer),
-    /// An answer to each line of the input, over the module of this name.
-    Lines(&'a str),
+    /// An answer to what is asked of each line of the input, over the module of this name.
+    Lines(LineTask, &'a str),
 }
 
 /// The reply to the words.
@@ -403,7 +404,7 @@ fn reply_to<'a, R: AllocGlobal + Threads + Wait + Sync, F: Files, I: Read>(
             let answer = witness_of(rt, files, input, words)?;
             Ok(Reply::Answer(answer))
         }
-        Ok(Command::Stream { module }) => Ok(Reply::Lines(module)),
+        Ok(Command::Stream { task, module }) => Ok(Reply::Lines(task, module)),
         Ok(Command::Drive { module, turns }) => {
             let answer = script_of(rt, files, module, turns, starts)?;
             Ok(Reply::Answer(answer))
@@ -473,7 +474,8 @@ fn report<E: Write>(err: &mut E, failure: Failure) -> u8
 /// in version 2. `complete MODULE DOC` reads both as `check` does, and prints the document in version 2 with the steps
 /// and the ends that the module gives its threads on the values that their events read. `verify MODULE DOC` reads both,
 /// and prints the line of `check` for the completed document. `stream MODULE` reads the module, and then answers each
-/// line of `input` with the line of `verify` for it, in order, as the lines come. `explain MODULE DOC` prints the line
+/// line of `input` with the line of `verify` for it, in order, as the lines come; `decide MODULE` completes each
+/// line so, and answers it as `witness` does. `explain MODULE DOC` prints the line
 /// of `check`, and then explains it in sentences; `graph MODULE DOC` prints the execution for Graphviz, or the line of
 /// a refusal; both have the status of `check`. Without a module, these two read a document as `rules` does, and explain
 /// or draw what `rules` judges. `drive MODULE TURNS START..` plays a script over a module, and prints the outcome, the
@@ -518,7 +520,7 @@ pub fn serve<R: AllocGlobal + Threads + Wait + Sync, F: Files, I: Read, O: Write
             Ok(()) => answer.status,
             Err(_) => report(err, Failure::Unwritten),
         },
-        Ok(Reply::Lines(module)) => match stream_lines(rt, files, module, input, out) {
+        Ok(Reply::Lines(task, module)) => match stream_lines(rt, files, task, module, input, out) {
             Ok(status) => status,
             Err(failure) => report(err, failure),
         },

@@ -1,12 +1,15 @@
-//! The commands `verify` and `stream`: documents are completed against a module, and checked.
+//! The commands `verify`, `stream` and `decide`: documents are completed against a module, and checked or given a
+//! witness.
 ghost use Rattle.std.specs.Prelude.{◌≡◌, IfOk, string_bytes};
 ghost use Rattle.wm_stream.specs.Answers.{status_code};
 ghost use Rattle.wm_check.specs.Texts.{verdict_status};
 ghost use Rattle.wm_litmus.specs.Stream.{AnswersVerify, IsJudgeOf, IsLineOf, JudgesLine, status_of};
 
 use crate::answer::Answer;
+use crate::line_witness::line_witness;
 use std::alloc::{AllocError, Global};
 use wm_check::{Unread, Verdict, read_module, verify, verify_log};
+use wm_command::LineTask;
 use wm_stream::{AnswersLines, LineAnswer, LineStatus};
 use wm_valid::ValidModule;
 
@@ -32,6 +35,8 @@ pub(crate) fn verify_answer(
 pub(crate) enum Judge {
     /// The module that the lines are verified against.
     Module(ValidModule),
+    /// The module over which a witness of each line is searched for.
+    Search(ValidModule),
     /// The refusal of the module, which answers each line.
     Refused(Verdict),
 }
@@ -42,7 +47,7 @@ impl Judge {
         ensures { result ≡ status_of self.now }
     {
         match self {
-            Judge::Module(_) => LineStatus::Allowed,
+            Judge::Module(_) | Judge::Search(_) => LineStatus::Allowed,
             Judge::Refused(_) => LineStatus::Refused,
         }
     }
@@ -79,6 +84,7 @@ impl AnswersLines for Judge {
                 let verdict = verify_log(alloc, module, line)?;
                 line_answer(alloc, &verdict)
             }
+            Judge::Search(module) => line_witness(alloc, module, line),
             Judge::Refused(verdict) => line_answer(alloc, verdict),
         }
     }
@@ -89,11 +95,18 @@ impl AnswersLines for Judge {
 /// # Errors
 ///
 /// Only if an allocation fails.
-pub(crate) fn judge_of(alloc: Global, module_bytes: &[u8]) -> Result<Judge, AllocError>
-    ensures { IfOk result (IsJudgeOf module_bytes.now) }
+pub(crate) fn judge_of(
+    alloc: Global,
+    task: LineTask,
+    module_bytes: &[u8],
+) -> Result<Judge, AllocError>
+    ensures { IfOk result (IsJudgeOf task module_bytes.now) }
 {
     match read_module(alloc, module_bytes) {
-        Ok(module) => Ok(Judge::Module(module)),
+        Ok(module) => Ok(match task {
+            LineTask::Verify => Judge::Module(module),
+            LineTask::Witness => Judge::Search(module),
+        }),
         Err(Unread::Refused(refusal)) => Ok(Judge::Refused(Verdict::Refused(refusal))),
         Err(Unread::OutOfMemory) => Err(AllocError),
     }

@@ -19,7 +19,7 @@ use wm_witness::{Answer as Search, find, unknown_witness};
 pub(crate) const DEFAULT_NODES: u32 = 100_000;
 
 /// A log over an initial memory as a candidate, with a witness that is not its own; or the first fault of its shape.
-fn started<'i>(
+pub(crate) fn started<'i>(
     alloc: Global,
     log: Log,
     initial: &'i Initial,
@@ -31,7 +31,7 @@ fn started<'i>(
 }
 
 /// The answer of a search of at most this number of nodes for a witness of a candidate's log.
-fn searched(alloc: Global, start: &Candidate, nodes: u32) -> Result<Answer, AllocError>
+pub(crate) fn searched(alloc: Global, start: &Candidate, nodes: u32) -> Result<Answer, AllocError>
     ensures { IfOk result (Gives (AnswersSearch start.now nodes)) }
 {
     let log = start.log();

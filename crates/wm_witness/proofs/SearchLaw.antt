@@ -29,13 +29,17 @@ replaced run node parts (split {a = a} {b = b} new) all = λ witness shape valid
     (λ (h : Holds x b). other witness shape valid (kept-with x node b keeps h))
     (keeps-one x a b shape new.opposite)
 
--- once all that is left is closed, so is the alternative that assumes nothing
-left-closed : (run : LoggedRun) (n : ℕ) (waiting : List (List Assumption)) → Searched run n waiting → All (IsClosed run) waiting → IsClosed run []
-left-closed run n waiting start all = all-head (IsClosed run) [] [] all
-left-closed run n waiting (step m rest node parts before replaces) all =
-    left-closed run m (rest ++ node ∷ []) before
+-- once all that is left is closed, so is the first alternative
+left-closed : (run : LoggedRun) (wanted : List Assumption) (n : ℕ) (waiting : List (List Assumption)) → Searched run wanted n waiting → All (IsClosed run) waiting → IsClosed run wanted
+left-closed run wanted n waiting start all = all-head (IsClosed run) wanted [] all
+left-closed run wanted n waiting (step m rest node parts before replaces) all =
+    left-closed run wanted m (rest ++ node ∷ []) before
     (All-append (IsClosed run) rest (node ∷ []) (all-first (IsClosed run) rest parts all)
     (All-cons (IsClosed run) node [] (replaced run node parts replaces (all-second (IsClosed run) rest parts all)) (all-none (IsClosed run))))
 
-pub none-left : (run : LoggedRun) (n : ℕ) → Searched run n [] → IsNeverValid run
-none-left run n searched = λ witness shape valid. left-closed run n [] searched (all-none (IsClosed run)) witness shape valid (all-none (Holds (with_witness run witness)))
+pub none-left : (run : LoggedRun) (wanted : List Assumption) (n : ℕ) → Searched run wanted n [] → IsClosed run wanted
+none-left run wanted n searched = left-closed run wanted n [] searched (all-none (IsClosed run))
+
+-- what nothing is wanted of keeps all of it
+pub none-at-all : (run : LoggedRun) → IsClosed run [] → IsNeverValid run
+none-at-all run none = λ witness shape valid. none witness shape valid (all-none (Holds (with_witness run witness)))

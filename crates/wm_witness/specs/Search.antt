@@ -52,15 +52,15 @@ pub data Replaces (run : LoggedRun) (node : List Assumption) : List (List Assump
   split : {a b : Assumption} → IsNewSplit run.log node a b → Replaces run node ((node ++ b ∷ []) ∷ (node ++ a ∷ []) ∷ [])
   stays : NothingIsNew run.log node → Replaces run node (node ∷ [])
 
--- what is left after a number of steps, each of which replaces the last alternative; the first one assumes nothing
-pub data Searched (run : LoggedRun) : ℕ → List (List Assumption) → Type 0 where
-  start : Searched run 0 ([] ∷ [])
-  step : (n : ℕ) (waiting : List (List Assumption)) (node : List Assumption) (parts : List (List Assumption)) → Searched run n (waiting ++ node ∷ []) → Replaces run node parts
-      → Searched run (n + 1) (waiting ++ parts)
+-- what is left after a number of steps, each of which replaces the last alternative; the first one assumes what is wanted
+pub data Searched (run : LoggedRun) (wanted : List Assumption) : ℕ → List (List Assumption) → Type 0 where
+  start : Searched run wanted 0 (wanted ∷ [])
+  step : (n : ℕ) (waiting : List (List Assumption)) (node : List Assumption) (parts : List (List Assumption)) → Searched run wanted n (waiting ++ node ∷ []) → Replaces run node parts
+      → Searched run wanted (n + 1) (waiting ++ parts)
 
 -- after so many steps some alternative is left
-abbrev pub IsLeftOpen : LoggedRun → ℕ → Type 0
-IsLeftOpen run n = (waiting : List (List Assumption)) × (waiting ≢ []) × Searched run n waiting
+abbrev pub IsLeftOpen : LoggedRun → List Assumption → ℕ → Type 0
+IsLeftOpen run wanted n = (waiting : List (List Assumption)) × (waiting ≢ []) × Searched run wanted n waiting
 
 -- the alternative that a frame keeps: the first assumptions, and its own
 abbrev pub alternative : List Assumption → Frame → List Assumption

@@ -4,25 +4,24 @@ use Rattle.wm_event.specs.declared.event.EventKey.{EventKey}
 use Rattle.wm_event.specs.declared.event.EventId.{EventId}
 use Rattle.wm_event.specs.declared.event.EventId.TheVariants.{At, Init}
 use Rattle.wm_event.specs.declared.log.ThreadLog.{ThreadLog}
-use Rattle.wm_event.specs.LoggedRun.{LoggedRun, execution}
-use Rattle.wm_event.specs.Rules.{IsValid}
-use Rattle.wm_event.specs.Shape.{IsWellShaped}
+use Rattle.wm_event.specs.LoggedRun.{LoggedRun}
 use Rattle.wm_writers.specs.Forced.{with_witness}
 use Rattle.wm_witness.specs.declared.assumption.Assumption.{Assumption}
 use Rattle.wm_witness.specs.declared.assumption.Assumption.TheVariants.{Takes, Byte, Before}
 use Rattle.wm_witness.specs.declared.new_split.Split.{Split}
 use Rattle.wm_witness.specs.declared.step.Step.{Step}
 use Rattle.wm_witness.specs.declared.step.Step.TheVariants.{Found, Closed, Split as SplitOn, Stays}
-use Rattle.wm_witness.specs.Always.{IsClosed}
+use Rattle.wm_witness.specs.Always.{IsClosed, IsValidWith}
+use Rattle.wm_witness.specs.Assumptions.{Keeps}
 use Rattle.wm_witness.specs.Search.{AreOpposite, IsNewSplit, NothingIsNew}
 
--- a witness that makes the log valid; that none that keeps the assumptions does; a further assumption, which is new, with its
--- opposite; or that nothing is new
-abbrev pub IsStep : LoggedRun → List Assumption → Step → Type 0
-IsStep run assumed (Found witness) = IsWellShaped (with_witness run witness) × IsValid (execution (with_witness run witness))
-IsStep run assumed Closed = IsClosed run assumed
-IsStep run assumed (SplitOn a b) = IsNewSplit run.log assumed a b
-IsStep run assumed Stays = NothingIsNew run.log assumed
+-- a witness that makes the log valid and is as wanted; that none that keeps the assumptions makes it valid; a further assumption,
+-- which is new, with its opposite; or that nothing is new
+abbrev pub IsStep : LoggedRun → List Assumption → List Assumption → Step → Type 0
+IsStep run wanted assumed (Found witness) = IsValidWith run witness × Keeps (with_witness run witness) wanted
+IsStep run wanted assumed Closed = IsClosed run assumed
+IsStep run wanted assumed (SplitOn a b) = IsNewSplit run.log assumed a b
+IsStep run wanted assumed Stays = NothingIsNew run.log assumed
 
 -- an assumption that is new, and its opposite
 abbrev pub IsSplit : List ThreadLog → List Assumption → Split → Type 0

@@ -31,5 +31,6 @@ mod turns;
 mod unknown;
 
 pub use answer::Answer;
-pub use search::find;
+pub use assumption::Assumption;
+pub use search::{find, find_keeping};
 pub use unknown::unknown_witness;

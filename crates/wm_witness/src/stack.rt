@@ -20,15 +20,15 @@ pub(crate) struct Stack {
 }
 
 impl Stack {
-    /// The one alternative that assumes nothing.
-    pub(crate) fn new(alloc: Global) -> Self
-        ensures assumed { result.assumed.items ≡ [] }
-        ensures frames { result.frames.items ≡ [] }
+    /// The one alternative that assumes what is wanted.
+    pub(crate) fn new(alloc: Global, wanted: &[Assumption]) -> Result<Self, AllocError>
+        ensures assumed { IfOk result (λ stack. stack.assumed.items ≡ wanted.now) }
+        ensures frames { IfOk result (λ stack. stack.frames.items ≡ []) }
     {
-        Stack {
-            assumed: Vec::new(alloc),
+        Ok(Stack {
+            assumed: wanted.to_vec(alloc)?,
             frames: Vec::new(alloc),
-        }
+        })
     }
 
     /// Assumes one more thing; the alternative that assumes the other in its place waits.

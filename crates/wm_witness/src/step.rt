@@ -1,9 +1,10 @@
 //! One step of the search.
-ghost use Rattle.std.specs.Prelude.{IfOk, IfSome};
+ghost use Rattle.std.specs.Prelude.{IfOk, IfSome, List};
 ghost use Rattle.wm_witness.specs.Rules.{IsNode};
 ghost use Rattle.wm_witness.specs.Steps.{IsSameLog, IsSplit, IsStep};
+ghost use Rattle.wm_witness.specs.declared.assumption.Assumption.{Assumption as Assumed};
 
-use crate::assumption::Assumption;
+use crate::assumption::{Assumption, keeps};
 use crate::copies::{copy_log, copy_witness};
 use crate::grounds::grounds_of;
 use crate::leaf::{Bytes, likely_writers};
@@ -19,7 +20,7 @@ use wm_rules::judge_sequentially;
 /// What one step of a search finds.
 #[derive(Drop)]
 pub(crate) enum Step {
-    /// The log is valid with this witness.
+    /// The log is valid with this witness, which is as wanted.
     Found(Witness),
     /// No witness that keeps the assumptions makes the log valid.
     Closed,
@@ -120,7 +121,7 @@ fn some_split(
     grounds: &[Assumption],
 ) -> Step
     requires { IsNode start.now assumed.now node.now }
-    ensures { IsStep start.now assumed.now result }
+    ensures { (wanted : List Assumed) → IsStep start.now wanted assumed.now result }
 {
     if let Some(split) = split_on_open(start, assumed, node, grounds) {
         return Step::Split(split.last, split.other);
@@ -229,6 +230,7 @@ pub(crate) fn candidate_with<'a>(
 fn judged(
     alloc: Global,
     start: &Candidate,
+    wanted: &[Assumption],
     assumed: &[Assumption],
     node: &Node,
     writers: &[Bytes],
@@ -236,14 +238,20 @@ fn judged(
 ) -> Result<Step, AllocError>
     requires node { IsNode start.now assumed.now node.now }
     requires log { IsSameLog start.now leaf.now }
-    ensures { IfOk result (IsStep start.now assumed.now) }
+    ensures { IfOk result (IsStep start.now wanted.now assumed.now) }
 {
     let _log = leaf.log();
     match judge_sequentially(alloc, leaf)? {
-        Judgement::Valid => Ok(Step::Found(copy_witness(alloc, leaf.witness())?)),
+        Judgement::Valid => {
+            if !keeps(leaf, wanted) {
+                return Ok(some_split(start, assumed, node, writers, &[]));
+            }
+            Ok(Step::Found(copy_witness(alloc, leaf.witness())?))
+        }
         Judgement::Broken(fault) => {
             let grounds = grounds_of(alloc, leaf, &fault)?;
-            Ok(some_split(start, assumed, node, writers, grounds.as_slice()))
+            let grounds = grounds.as_slice();
+            Ok(some_split(start, assumed, node, writers, grounds))
         }
     }
 }
@@ -252,22 +260,23 @@ fn judged(
 fn judged_with(
     alloc: Global,
     start: &Candidate,
+    wanted: &[Assumption],
     assumed: &[Assumption],
     node: &Node,
     writers: &[Bytes],
     order: &[EventKey],
 ) -> Result<Step, AllocError>
     requires node { IsNode start.now assumed.now node.now }
-    ensures { IfOk result (IsStep start.now assumed.now) }
+    ensures { IfOk result (IsStep start.now wanted.now assumed.now) }
 {
     let witness = witness_of(alloc, start, node, writers, order)?;
     match candidate_with(alloc, start, witness)? {
-        Some(leaf) => judged(alloc, start, assumed, node, writers, &leaf),
+        Some(leaf) => judged(alloc, start, wanted, assumed, node, writers, &leaf),
         None => Ok(some_split(start, assumed, node, writers, &[])),
     }
 }
 
-/// Looks at the witnesses that keep the assumptions.
+/// Looks at the witnesses that keep the assumptions, which begin with what is wanted.
 ///
 /// # Errors
 ///
@@ -275,9 +284,10 @@ fn judged_with(
 pub(crate) fn next_step(
     alloc: Global,
     start: &Candidate,
+    wanted: &[Assumption],
     assumed: &[Assumption],
 ) -> Result<Step, AllocError>
-    ensures { IfOk result (IsStep start.now assumed.now) }
+    ensures { IfOk result (IsStep start.now wanted.now assumed.now) }
 {
     let Some(node) = settle(alloc, start, assumed)? else {
         return Ok(Step::Closed);
@@ -298,6 +308,7 @@ pub(crate) fn next_step(
     judged_with(
         alloc,
         start,
+        wanted,
         assumed,
         &node,
         writers.as_slice(),

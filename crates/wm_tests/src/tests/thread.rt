@@ -310,3 +310,39 @@ fn starts_are_refused(rt: HostRuntime) -> Result<(), Fail> {
     }
     Ok(())
 }
+
+fn are_same(thread: &Thread, other: &Thread) -> bool {
+    thread.is_same(other)
+}
+
+/// Two threads with the same start are the same, and then again once both have made the same steps.
+fn steps_tell_apart<R: Abort>(rt: &R, thread: &mut Thread, other: &mut Thread) {
+    same(rt, are_same(thread, other), true);
+    same(rt, ran(thread, 10), Some(1));
+    same(rt, are_same(thread, other), false);
+    same(rt, ran(other, 10), Some(1));
+    same(rt, are_same(thread, other), true);
+    same(rt, advanced(thread, 7), true);
+    same(rt, advanced(other, 8), true);
+    same(rt, are_same(thread, other), false);
+}
+
+/// Two threads of a module that start so.
+fn both_run<R: Abort + AllocGlobal>(rt: &R, module: &ValidModule) -> Result<(), Fail> {
+    let mut thread = started(rt.alloc(), module, 8)?;
+    let mut other = started(rt.alloc(), module, 8)?;
+    steps_tell_apart(rt, &mut thread, &mut other);
+    drop(thread);
+    drop(other);
+    Ok(())
+}
+
+#[test]
+fn threads_are_the_same_where_they_are_at_one_place_with_the_same_values(
+    rt: HostRuntime,
+) -> Result<(), Fail> {
+    let module = loads_and_adds(rt.alloc())?;
+    let run = both_run(&rt, &module);
+    drop(module);
+    run
+}

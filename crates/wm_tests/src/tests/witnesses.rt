@@ -5,9 +5,9 @@ use super::{same, same_in};
 use std::alloc::Global;
 use std::process::Abort;
 use std::test::Fail;
-use wm_event::{Initial, Judgement, Witness};
+use wm_event::{EventKey, Initial, Judgement, Witness};
 use wm_rules::judge_sequentially;
-use wm_witness::{Answer, find, unknown_witness};
+use wm_witness::{Answer, Assumption, find, find_keeping, unknown_witness};
 
 /// Atomic store buffering in which both threads miss the other's store: no witness.
 const STORE_BUFFERING: &str =
@@ -20,6 +20,10 @@ const EITHER_WRITE: &str =
 /// A torn word: each byte of it was written often, and the word never.
 const TORN_WORD: &str =
     r#"["wasm-litmus-log",2,[["t",[],["cut"],0,[["w","un",0,4,257],["w","un",0,4,514],["w","un",0,4,257],["w","un",0,4,514]]],["t",[],["cut"],0,[["w","un",0,4,257],["w","un",0,4,514],["r","un",0,4,513,[]],["w","un",0,4,257]]]],[]]"#;
+
+/// A value that either of two threads left, and the second of them reads.
+const EITHER_THREAD: &str =
+    r#"["wasm-litmus-log",2,[["t",[],["cut"],0,[["w","un",0,1,1]]],["t",[],["cut"],0,[["w","un",0,1,1],["r","un",0,1,1,[]]]]],[]]"#;
 
 /// What a search of so many steps answers for the log of a document.
 fn answer_of(alloc: Global, text: &str, initial: &Initial, nodes: u64) -> Result<Answer, Fail> {
@@ -142,4 +146,46 @@ fn an_unknown_witness_has_a_place_for_each_event(rt: HostRuntime) -> Result<(), 
     let sizes = unknown_sizes(rt.alloc(), STORE_BUFFERING)?;
     same(&rt, sizes, [2, 4]);
     Ok(())
+}
+
+/// What a search answers for EITHER_THREAD if its read takes nothing from the first events of these threads.
+fn answer_without(alloc: Global, threads: &[u32], initial: &Initial) -> Result<Answer, Fail> {
+    let (log, stated) = read(alloc, EITHER_THREAD)?;
+    drop(stated);
+    let unknown = unknown_witness(alloc, &log)?;
+    let start = candidate(alloc, log, unknown, initial)?;
+    let reader = EventKey {
+        thread: 1,
+        number: 1,
+    };
+    let mut wanted = Vec::new(alloc);
+    for thread in threads {
+        let writer = EventKey {
+            thread: *thread,
+            number: 0,
+        };
+        wanted.push(Assumption::TakesNone(reader, writer))?;
+    }
+    let answer = find_keeping(alloc, &start, wanted.as_slice(), 100);
+    drop(start);
+    Ok(answer?)
+}
+
+/// Without either writer the read has the other, and without both none.
+fn other_writers_are_found<R: Abort + AllocGlobal>(rt: &R, initial: &Initial) -> Result<(), Fail> {
+    let cases = [(0, 0, "found"), (1, 1, "found"), (0, 1, "none")];
+    for (one, other, wanted) in &cases {
+        let answer = answer_without(rt.alloc(), &[*one, *other], initial)?;
+        same_in(rt, one, word_of(&answer), *wanted);
+        drop(answer);
+    }
+    Ok(())
+}
+
+#[test]
+fn a_search_keeps_what_is_assumed(rt: HostRuntime) -> Result<(), Fail> {
+    let initial = Initial::zeros(rt.alloc(), 1);
+    let found = other_writers_are_found(&rt, &initial);
+    drop(initial);
+    found
 }

@@ -8,6 +8,10 @@ pub returns-in_err-module-in-stream-clause-none : goal.returns-in_err-module-in-
 returns-in_err-module-in-stream-clause-none c = λ _.
     no_command c.args.name.now (rows_of (found_of c.args.words.now)) (codes "file" ∷ []) (ap required_of c.in-stream.is) (c.in_err-module-in-stream.ensures.none refl)
 
+pub returns-in_err-module-in-decide-clause-none : goal.returns-in_err-module-in-decide-clause-none
+returns-in_err-module-in-decide-clause-none c = λ _.
+    no_command c.args.name.now (rows_of (found_of c.args.words.now)) (codes "file" ∷ []) (ap required_of c.in-decide.is) (c.in_err-module-in-decide.ensures.none refl)
+
 pub returns-in_err-module-in-drive-clause-none : goal.returns-in_err-module-in-drive-clause-none
 returns-in_err-module-in-drive-clause-none c = λ _.
     no_command c.args.name.now (rows_of (found_of c.args.words.now)) (codes "file" ∷ codes "turns" ∷ []) (ap required_of c.in-drive.is) (c.in_err-module-in-drive.ensures.none refl)
@@ -145,6 +149,9 @@ returns-in-graph-clause-none c = c.log_command-in-graph.ensures.none
 
 pub returns-in_ok-module-in-stream-clause-some : goal.returns-in_ok-module-in-stream-clause-some
 returns-in_ok-module-in-stream-clause-some c = (c.in-stream.is, (c.in_ok-module-in-stream.ensures.some, tt), tt)
+
+pub returns-in_ok-module-in-decide-clause-some : goal.returns-in_ok-module-in-decide-clause-some
+returns-in_ok-module-in-decide-clause-some c = (c.in-decide.is, (c.in_ok-module-in-decide.ensures.some, tt), tt)
 
 pub returns-in_ok-module-in-drive-clause-some : goal.returns-in_ok-module-in-drive-clause-some
 returns-in_ok-module-in-drive-clause-some c = (c.in-drive.is, c.in_ok-module-in-drive.ensures.some, tt)

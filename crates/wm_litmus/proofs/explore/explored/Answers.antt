@@ -16,7 +16,7 @@ pub listed-requires : goal.listed-requires
 listed-requires c = λ k d within.
     let f = get_or c.in_ok-exploration.exploration.finished k d in
     let own = c.in-Ok.ensures.own in
-    fits_log (record { log = f.log; witness = f.witness; initial = own.initial }) (c.in_ok-exploration.ensures.found k d within own.initial own.is_init).shaped
+    fits_log (record { log = f.log; witness = f.witness; initial = own.initial }) (c.in_ok-exploration.ensures.found k d within own.initial own.is_init).0.shaped
 
 pub returns-in-Err : goal.returns-in-Err
 returns-in-Err c =

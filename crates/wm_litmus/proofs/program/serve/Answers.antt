@@ -32,9 +32,9 @@ returns-in-Ok-stream_lines-clause-answers g c _ =
     let status = c.in-Ok-stream_lines.status in
     let kept = (rw c.in-Ok-Lines.field-0-is at c.in-Ok-Lines.ensures.kept) tt in
     let command = rw c.in-Ok-Lines.field-0-is at c.in-Ok-Lines.ensures.answers in
-    let files_kept = subst (λ files. StreamsAll (g.F.Files.content_of files name.now) (g.I.Read.remaining c.reply_to.new.input) old new status) kept.0 c.in-Ok-stream_lines.ensures.answered in
-    writes_all (given (map (λ word. word.now) c.args.words.now) (g.F.Files.content_of c.args.files.now) (g.I.Read.remaining c.args.input.now)) name old new command status
-    (subst (λ input. StreamsAll (g.F.Files.content_of c.args.files.now name.now) (g.I.Read.remaining input) old new status) kept.1 files_kept)
+    let files_kept = subst (λ files. StreamsAll c.in-Ok-Lines.task (g.F.Files.content_of files name.now) (g.I.Read.remaining c.reply_to.new.input) old new status) kept.0 c.in-Ok-stream_lines.ensures.answered in
+    writes_all (given (map (λ word. word.now) c.args.words.now) (g.F.Files.content_of c.args.files.now) (g.I.Read.remaining c.args.input.now)) c.in-Ok-Lines.task name old new command status
+    (subst (λ input. StreamsAll c.in-Ok-Lines.task (g.F.Files.content_of c.args.files.now name.now) (g.I.Read.remaining input) old new status) kept.1 files_kept)
 
 pub returns-in-Ok-Lines-clause-stopped : goal.returns-in-Ok-Lines-clause-stopped
 returns-in-Ok-Lines-clause-stopped g c _ =
@@ -43,6 +43,6 @@ returns-in-Ok-Lines-clause-stopped g c _ =
     let new = g.O.Write.contents c.stream_lines.new.out in
     let kept = (rw c.in-Ok-Lines.field-0-is at c.in-Ok-Lines.ensures.kept) tt in
     let command = rw c.in-Ok-Lines.field-0-is at c.in-Ok-Lines.ensures.answers in
-    let files_kept = subst (λ files. StreamsFront (g.F.Files.content_of files name.now) (g.I.Read.remaining c.reply_to.new.input) old new) kept.0 c.in-Err-stream_lines.ensures.stopped in
-    writes_front (given (map (λ word. word.now) c.args.words.now) (g.F.Files.content_of c.args.files.now) (g.I.Read.remaining c.args.input.now)) name old new command
-    (subst (λ input. StreamsFront (g.F.Files.content_of c.args.files.now name.now) (g.I.Read.remaining input) old new) kept.1 files_kept)
+    let files_kept = subst (λ files. StreamsFront c.in-Ok-Lines.task (g.F.Files.content_of files name.now) (g.I.Read.remaining c.reply_to.new.input) old new) kept.0 c.in-Err-stream_lines.ensures.stopped in
+    writes_front (given (map (λ word. word.now) c.args.words.now) (g.F.Files.content_of c.args.files.now) (g.I.Read.remaining c.args.input.now)) c.in-Ok-Lines.task name old new command
+    (subst (λ input. StreamsFront c.in-Ok-Lines.task (g.F.Files.content_of c.args.files.now name.now) (g.I.Read.remaining input) old new) kept.1 files_kept)

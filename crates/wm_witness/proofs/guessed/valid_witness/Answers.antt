@@ -1,10 +1,11 @@
-use Rattle.std.proofs.Common.{◌≡◌, sym, subst, ◌∙◌}
+use Rattle.std.proofs.Common.{◌≡◌, refl, sym, subst, ◌∙◌}
 use Rattle.wm_event.specs.declared.witness.Witness.{Witness}
 use Rattle.wm_event.specs.Faults.{Judges}
 use Rattle.wm_event.specs.LoggedRun.{LoggedRun, execution}
 use Rattle.wm_event.specs.Rules.{IsValid}
 use Rattle.wm_event.specs.Shape.{IsWellShaped}
 use Rattle.wm_writers.specs.Forced.{with_witness}
+use Rattle.wm_witness.specs.Assumptions.{Keeps}
 use Rattle.wm_witness.specs.Steps.{IsSameLog}
 use Rattle.wm_witness.proofs.guessed.valid_witness.Goals as goal
 
@@ -20,4 +21,7 @@ returns-in_ok-copy_witness-in-Valid c =
     let copied : w ≡ c.witness.result.now = c.in_ok-copy_witness-in-Valid.ensures in
     let same : leaf ≡ with_witness run w = same-run run leaf w c.requires (copied ∙ c.witness.ensures.value) in
     let valid : IsValid (execution leaf) = subst (Judges (execution leaf)) c.in-Valid.is c.in_ok-judge_sequentially.ensures.judged in
-    subst (λ (x : LoggedRun). IsWellShaped x × IsValid (execution x)) same (c.log-log.ensures.shape, valid)
+    record {
+      valid = subst (λ (x : LoggedRun). IsWellShaped x × IsValid (execution x)) same (c.log-log.ensures.shape, valid);
+      kept = subst (λ (x : LoggedRun). Keeps x c.args.wanted.now) same (c.if-not-keeps.ensures refl);
+    }

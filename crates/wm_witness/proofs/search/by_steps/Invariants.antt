@@ -6,6 +6,6 @@ use Rattle.wm_witness.proofs.search.by_steps.Given as goal
 
 abbrev pub invariant-loop-begun : goal.invariant-loop-begun
 invariant-loop-begun l = record {
-  searched : Searched l.start l.begun (alternatives l.stack.assumed.items l.stack.frames.items);
+  searched : Searched l.start l.wanted l.begun (alternatives l.stack.assumed.items l.stack.frames.items);
   stacked : AreStacked 0 l.stack.frames.items (length l.stack.assumed.items);
 }
