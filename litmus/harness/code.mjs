@@ -26,6 +26,7 @@ export const WIDE_SHIFT = [0x88], SHIFT = [0x76];
 export const atomicLoad = (/** @type {number} */ offset) => [0xfe, 0x10, 2, ...u32(offset)];
 export const atomicStore = (/** @type {number} */ offset) => [0xfe, 0x17, 2, ...u32(offset)];
 export const wait32 = [0xfe, 0x01, 2, 0];
+export const fill = [0xfc, 0x0b, 0];
 
 /**
  * Groups of locals of one type, as a body has them.

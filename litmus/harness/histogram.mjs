@@ -1,7 +1,7 @@
 // @ts-check
 /** Counts how often each tuple of values occurred. A tuple has a value for each result of each thread, and then the final values. */
 
-/** Up to this many columns of one byte are counted in a table, 4 bits a column. */
+/** Up to this many columns of one word each are counted in a table, 4 bits a column; larger values are counted with the rest. */
 const MOST_TABLE_COLUMNS = 5;
 /** Beyond this many different tuples the others are counted together. */
 export const MOST_TUPLES = 4096;
@@ -98,10 +98,10 @@ export class Histogram {
   constructor(columns, batch, buffer) {
     this.columns = columns;
     this.batch = batch;
-    this.bytes = new Uint8Array(buffer);
-    this.rest = new Tuples(columns.flatMap((column, k) => wordsOf(column, k, buffer)));
-    this.isNarrow = columns.length > 0 && columns.length <= MOST_TABLE_COLUMNS && columns.every(({ size }) => size === 1);
-    this.table = new Float64Array(this.isNarrow ? 16 ** columns.length : 0);
+    this.words = columns.flatMap((column, k) => wordsOf(column, k, buffer));
+    this.rest = new Tuples(this.words);
+    this.isTable = columns.length > 0 && columns.length <= MOST_TABLE_COLUMNS && this.words.length === columns.length;
+    this.table = new Float64Array(this.isTable ? 16 ** columns.length : 0);
   }
 
   /** How many instances had a tuple that is counted with others. */
@@ -111,31 +111,31 @@ export class Histogram {
 
   /** Counts a batch. */
   take() {
-    if (!this.isNarrow) for (let i = 0; i < this.batch; i++) this.rest.take(i);
+    if (!this.isTable) for (let i = 0; i < this.batch; i++) this.rest.take(i);
     else if (this.columns.length === 2) this.takePairs();
-    else this.takeNarrow();
+    else this.takeWords();
   }
 
   takePairs() {
-    const { bytes, batch, table, columns: [{ at: a, step: p }, { at: b, step: q }] } = this;
+    const { batch, table, words: [{ items: ones, at: a, step: p }, { items: others, at: b, step: q }] } = this;
     for (let i = 0; i < batch; i++) {
-      const one = bytes[a + i * p], other = bytes[b + i * q];
-      if ((one | other) > 15) this.rest.take(i);
+      const one = ones[a + i * p], other = others[b + i * q];
+      if ((one | other) >>> 4) this.rest.take(i);
       else table[(one << 4) | other]++;
     }
   }
 
-  takeNarrow() {
-    const { bytes, batch, table, columns } = this;
-    const ats = columns.map(({ at }) => at), steps = columns.map(({ step }) => step);
+  takeWords() {
+    const { batch, table, words } = this;
     for (let i = 0; i < batch; i++) {
       let key = 0, all = 0;
-      for (let c = 0; c < ats.length; c++) {
-        const value = bytes[ats[c] + i * steps[c]];
+      for (let w = 0; w < words.length; w++) {
+        const { items, at, step } = words[w];
+        const value = items[at + i * step];
         key = (key << 4) | value;
         all |= value;
       }
-      if (all > 15) this.rest.take(i);
+      if (all >>> 4) this.rest.take(i);
       else table[key]++;
     }
   }

@@ -13,7 +13,7 @@ import { KIND, constantOf, readModule } from '../../engines/lowering/module.mjs'
 import { constantOfType } from '../../engines/lowering/assembly.mjs';
 import { isStraight, itemsOf, rangesOf } from './accesses.mjs';
 import {
-  ADD, END, GT_U, I32, I64, IF, LOOP, LT_U, MUL, SHIFT, SHL, UNREACHABLE, WIDE_SHIFT, bodyOf, branch, branchIf, call, get,
+  ADD, END, GT_U, I32, I64, IF, LOOP, LT_U, MUL, SHIFT, SHL, UNREACHABLE, WIDE_SHIFT, bodyOf, branch, branchIf, call, fill, get,
   globalGet, globalSet, i32, i64, set, tee,
 } from './code.mjs';
 import { DEFAULTS, layoutOf, locationAt } from './layout.mjs';
@@ -281,6 +281,9 @@ class FunctionWriter {
   }
 }
 
+/** The body of a function that makes bytes zeros, from an address on, so many. Engines fill shared memory fast by this alone. */
+const clearBody = () => bodyOf([], [...get(0), ...i32(0), ...get(1), ...fill]);
+
 /** The looped module of a test. */
 class LoopedModule {
   /**
@@ -407,10 +410,11 @@ class LoopedModule {
 
   bytes() {
     const { module, threads, bodies } = this.source;
-    const run = this.typeOf([I32], []), pause = this.typeOf([I32, I32], []);
+    const run = this.typeOf([I32], []), pause = this.typeOf([I32, I32], []), clear = pause;
     const loops = threads.map((_, t) => this.loop(t));
-    const code = [...loops, pauseBody(), ...bodies.map((body, index) => this.called(body, index))];
-    const kinds = [...threads.map(() => run), pause, ...module.functionTypes];
+    const code = [...loops, pauseBody(), ...bodies.map((body, index) => this.called(body, index)), clearBody()];
+    const kinds = [...threads.map(() => run), pause, ...module.functionTypes, clear];
+    const exported = [...threads.map((_, t) => `run${t}`).entries(), [kinds.length - 1, 'clear']];
     const globals = module.globals.map((/** @type {any} */ { type, mutable, initial }) => (
       [type, mutable ? 1 : 0, ...constantOfType(type, constantOf(initial, module.globals)), CODE.end]));
     const memory = [...name('litmus'), ...name('memory'), KIND.memory, 3, 1, ...u32(65_536)];
@@ -420,7 +424,7 @@ class LoopedModule {
       ...section(SECTION.imports, vector([memory])),
       ...section(SECTION.functions, vector(kinds.map(u32))),
       ...section(SECTION.globals, vector([...globals, [I32, 1, ...i32(0), CODE.end]])),
-      ...section(SECTION.exports, vector(threads.map((_, t) => [...name(`run${t}`), KIND.function, ...u32(t)]))),
+      ...section(SECTION.exports, vector(exported.map(([index, word]) => [...name(`${word}`), KIND.function, ...u32(Number(index))]))),
       ...section(SECTION.code, vector(code)),
     ]);
   }

@@ -75,6 +75,8 @@ class Run {
     this.layout = made.layout;
     this.memory = pool.memoryOf(made.layout.pages);
     this.module = new WebAssembly.Module(made.bytes);
+    const { exports } = new WebAssembly.Instance(this.module, { litmus: { memory: this.memory } });
+    this.clear = /** @type {(address: number, size: number) => void} */ (exports.clear);
     this.bytes = new Uint8Array(this.memory.buffer);
     this.control = new Int32Array(this.memory.buffer, 0, MEETING / 4 + 32 * test.threads.length);
     this.histogram = new Histogram(this.columnsOf(made.finals), made.layout.batch, this.memory.buffer);
@@ -107,7 +109,7 @@ class Run {
 
   reset() {
     const { bytes, layout: { begin, end, batch, stride }, control } = this;
-    bytes.fill(0, begin, end);
+    this.clear(begin, end - begin);
     for (const { at, byte } of this.initial) for (let i = 0; i < batch; i++) bytes[at + i * stride] = byte;
     this.test.threads.forEach((_, t) => Atomics.store(control, (MEETING + MEETING_STRIDE * t) >> 2, 0));
     Atomics.store(control, WORD.done, 0);

@@ -151,7 +151,7 @@ def engines_line(collected: Collected, date: str) -> str:
     for engine, version in collected.engines.items():
         most = max((row.engines[engine].iterations for row in collected.rows if engine in row.engines), default=0)
         seen = sum(row.times(engine) > 0 for row in collected.rows)
-        names.append(f"{version}, about {round(most, -4):,} iterations of each test, {seen} outcomes came")
+        names.append(f"{version}, about {round(most, -4):,} iterations of each test, the outcome of {seen} came")
     return f"Engines ({date}), by `litmus/run`: {'; '.join(names) or 'none'}."
 
 
