@@ -146,13 +146,14 @@ def theorem_line(rows: Sequence[Row]) -> str:
 
 
 def engines_line(collected: Collected, date: str) -> str:
-    """Which engines ran, and how often each test."""
+    """Which engines ran, about how often each test, and of how many tests the outcome came."""
     names = []
     for engine, version in collected.engines.items():
         most = max((row.engines[engine].iterations for row in collected.rows if engine in row.engines), default=0)
         seen = sum(row.times(engine) > 0 for row in collected.rows)
-        names.append(f"{version}, about {round(most, -4):,} iterations of each test, the outcome of {seen} came")
-    return f"Engines ({date}), by `litmus/run`: {'; '.join(names) or 'none'}."
+        names.append(f"{version}: {round(most, -4):,}, {seen}")
+    listed = "; ".join(names) or "none"
+    return f"Engines ({date}), by `litmus/run`, with the iterations of each test, and how many outcomes came: {listed}."
 
 
 def head(collected: Collected) -> str:
