@@ -10,7 +10,7 @@ there, and asks the memory model (`wmlabtools/model.py`) for an order. Each outc
 half of the modules, within a few events of a thread. Each document of `witnesses` has to have the outcome of its line,
 to be allowed by the model and by `wmlab check`, to be causal, and to be a run of the threads.
 
-A module that shows a difference is kept in a folder. The last line is `N passed, N failed`.
+A module that shows a difference, or takes longer than a process may, is kept in a folder. The last line is `N passed, N failed`.
 """
 from __future__ import annotations
 
@@ -18,6 +18,7 @@ import json
 import os
 import random
 import re
+import subprocess
 import tempfile
 from collections.abc import Sequence
 from typing import Any, NamedTuple
@@ -203,7 +204,7 @@ def main() -> None:
                 file.write(case.module)
             try:
                 compare(wmlab, case, path)
-            except Difference as difference:
+            except (Difference, subprocess.TimeoutExpired) as difference:
                 place = kept(options.kept, f"{options.seed}-{number}.wasm", case)
                 return f"{difference}\n  {' '.join(case.words('wmlab explore', place))}\n  {case.functions}"
         return None
