@@ -139,8 +139,11 @@ def engines_line(collected: Collected, date: str) -> str:
     for engine, version in collected.engines.items():
         most = max((row.engines[engine].iterations for row in collected.rows if engine in row.engines), default=0)
         seen = sum(row.times(engine) > 0 for row in collected.rows)
-        names.append(f"{version}, about {round(most, -4):,} iterations of each test, the outcome of {seen} came")
-    return f"Engines ({date}), by `litmus/run`: {'; '.join(names) or 'none'}."
+        names.append(f"{version}, {round(most, -4):,}, {seen}")
+    head = f"Engines ({date}), by `litmus/run`"
+    if not names:
+        return f"{head}: none."
+    return f"{head}, with about how many iterations of each test, and how many outcomes came: {'; '.join(names)}."
 
 
 def head(collected: Collected) -> str:
