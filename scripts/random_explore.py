@@ -10,7 +10,8 @@ there, and asks the memory model (`wmlabtools/model.py`) for an order. Each outc
 half of the modules, within a few events of a thread. Each document of `witnesses` has to have the outcome of its line,
 to be allowed by the model and by `wmlab check`, to be causal, and to be a run of the threads.
 
-A module that shows a difference, or takes longer than a process may, is kept in a folder. The last line is `N passed, N failed`.
+A module that shows a difference, or takes longer than a process may, is kept in a folder. The last line is
+`N passed, N failed`.
 """
 from __future__ import annotations
 
