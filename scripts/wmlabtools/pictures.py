@@ -34,7 +34,10 @@ RULES = {
 KINDS = {"w": "W", "r": "R", "x": "U"}
 QUOTED = r'"((?:[^"\\]|\\.)*)"'
 DRAWN_NODE = re.compile(rf"^ +e(\d+)_(\d+) \[label={QUOTED}(.*)\];$", re.MULTILINE)
-DRAWN_EDGE = re.compile(rf"^ +e(\d+)_(\d+) -> e(\d+)_(\d+) \[(?:x|tail)label={QUOTED}(.*)\];$", re.MULTILINE)
+# A line is drawn over a node with its label.
+LABEL_NAME = r"e(\d+)_(\d+)_to_e(\d+)_(\d+)"
+DRAWN_LABEL = re.compile(rf"{LABEL_NAME} \[label={QUOTED}(.*)\];")
+WIDE_LINE = re.compile(rf" -> {LABEL_NAME} \[.*penwidth=2.*\];$", re.MULTILINE)
 DRAWN_THREAD = re.compile(rf'^    label={QUOTED};$', re.MULTILINE)
 DRAWN_TITLE = re.compile(rf"^  label={QUOTED};$", re.MULTILINE)
 
@@ -62,6 +65,12 @@ def unquoted(label: str) -> str:
     return re.sub(r"\\(.)", r"\1", label)
 
 
+def ends_of(numbers: Sequence[str]) -> tuple[Name, Name]:
+    """The two events whose threads and numbers these are."""
+    source_thread, source_number, target_thread, target_number = map(int, numbers)
+    return (source_thread, source_number), (target_thread, target_number)
+
+
 def shown_by(graph: str) -> Shown:
     """What a graph of `wmlab graph` has."""
     title = DRAWN_TITLE.search(graph)
@@ -76,15 +85,13 @@ def shown_by(graph: str) -> Shown:
             faulty.add(name)
     edges: list[Edge] = []
     red: set[tuple[Name, Name]] = set()
-    wide: set[tuple[Name, Name]] = set()
-    for *numbers, label, more in DRAWN_EDGE.findall(graph):
-        source, target = tuple(map(int, numbers[:2])), tuple(map(int, numbers[2:]))
+    for *numbers, label, more in DRAWN_LABEL.findall(graph):
+        source, target = ends_of(numbers)
         kinds = [word.split(" ")[0] for word in label.split(", ")]
         edges += [Edge(source, target, kind) for kind in kinds if kind in ("fr", "co")]
-        if 'color="red"' in more:
+        if 'fontcolor="red"' in more:
             red.add((source, target))
-        if "penwidth=2" in more:
-            wide.add((source, target))
+    wide = {ends_of(numbers) for numbers in WIDE_LINE.findall(graph)}
     return Shown(unquoted(title[1]), [*map(unquoted, DRAWN_THREAD.findall(graph))], places, faulty, edges, red, wide)
 
 

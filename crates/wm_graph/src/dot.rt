@@ -3,8 +3,10 @@
 use crate::caption::Caption;
 use crate::columns::{Column, Node};
 use crate::drawn::drawn_edges;
+use crate::frame::{add_ends, add_frame};
 use crate::label::{
     FAULT_COLOUR, FAULT_COLOURS, InitialShare, LabelText, NodeLabel, NodeName, PlaceLabel,
+    SEQUENCED_WEIGHT,
 };
 use crate::lines::add_lines;
 use crate::picture::{Picture, picture_of};
@@ -75,7 +77,7 @@ fn add_nodes(
     Ok(())
 }
 
-/// Adds an edge that replaces the events left out after the last one that is shown.
+/// Adds a line, over its label, that replaces the events left out after the last one that is shown.
 fn add_gap(
     text: &mut String,
     last: Option<EventId>,
@@ -84,9 +86,18 @@ fn add_gap(
 ) -> Result<(), AllocError> {
     let Some(last) = last else { return Ok(()) };
     let (from, to) = (NodeName(last), NodeName(next));
+    let look = SEQUENCED_WEIGHT;
     writeln!(
         text,
-        "    {from} -> {to} [xlabel=\"sb, {left_out} left out\", style=\"dashed\"];"
+        "    {from}_gap_{to} [label=\"sb, {left_out} left out\", shape=\"plain\"];"
+    )?;
+    writeln!(
+        text,
+        "    {from} -> {from}_gap_{to} [dir=\"none\", style=\"dashed\"{look}];"
+    )?;
+    writeln!(
+        text,
+        "    {from}_gap_{to} -> {to} [dir=\"forward\", style=\"dashed\"{look}];"
     )
 }
 
@@ -125,7 +136,10 @@ fn add_module_does(
             text,
             "    e{number}_{before} -> module_{number} [style=\"dotted\"{FAULT_COLOURS}];"
         ),
-        None => Ok(()),
+        None => writeln!(
+            text,
+            "    top_{number} -> module_{number} [style=\"invis\"];"
+        ),
     }
 }
 
@@ -147,24 +161,22 @@ fn add_column(
     let function = LabelText(function);
     writeln!(
         text,
-        "  subgraph cluster_{number} {{\n    label=\"thread {number}: {function}\";"
+        "  subgraph cluster_{number} {{\n    label=\"thread {number}: {function}\";\n    peripheries=0;"
     )?;
     let differs = differing_thread(breach) == Some(number);
     if differs {
-        writeln!(
-            text,
-            "    color=\"{FAULT_COLOUR}\";\n    fontcolor=\"{FAULT_COLOUR}\";"
-        )?;
+        writeln!(text, "    fontcolor=\"{FAULT_COLOUR}\";")?;
     }
     add_nodes(text, column, &sketch.picture.shown, candidate, places)?;
     if differs {
         add_module_does(text, number, breach, caption)?;
     }
+    add_ends(text, number)?;
     text.push_str("  }\n")?;
     Ok(())
 }
 
-/// Adds the node of Init, above the first event of each thread that is shown.
+/// Adds the node of Init.
 fn add_init(text: &mut String, picture: &Picture) -> Result<(), AllocError> {
     let colour = if picture.is_init_marked {
         FAULT_COLOUR
@@ -174,17 +186,7 @@ fn add_init(text: &mut String, picture: &Picture) -> Result<(), AllocError> {
     writeln!(
         text,
         "  init [label=\"init\", color=\"{colour}\", fontcolor=\"{colour}\"];"
-    )?;
-    for column in picture.columns.as_slice() {
-        let first = column.nodes.as_slice().iter().find(|node: &&Node| -> bool {
-            picture.shown.has_listed(node.event.key())
-        });
-        if let Some(node) = first {
-            let name = NodeName(EventId::At(node.event.key()));
-            writeln!(text, "  init -> {name} [style=\"invis\"];")?;
-        }
-    }
-    Ok(())
+    )
 }
 
 /// The second line of the title, if not all events are shown.
@@ -254,7 +256,8 @@ impl<'a> Sketch<'a> {
     }
 
     /// The execution as text for Graphviz. It has a column for each thread with the name of its function; a node for
-    /// Init and for each event that is shown, with its place in the order and, if `caption` has it, in the module; edges
+    /// Init and for each event that is shown, one below the other in the order, with its place there and, if `caption` has
+    /// it, in the module; edges
     /// for sequenced-before (`sb`), reads-from (`rf`, with the bytes if a read has several writers), synchronizes-with
     /// (`sw`), and for the order if it contradicts one of these. The events of a fault and the chains of happens-before
     /// that it rests on are red, with what else it needs: the order of its writes, and that one overwrites the other
@@ -273,8 +276,9 @@ impl<'a> Sketch<'a> {
         for (number, column) in picture.columns.as_slice().iter().enumerate() {
             add_column(&mut text, number, column, self, caption, &mut places)?;
         }
+        add_frame(&mut text, picture, self.candidate)?;
         let drawn = drawn_edges(alloc, picture, self.breach)?;
-        add_lines(&mut text, drawn.as_slice())?;
+        add_lines(&mut text, self.candidate, drawn.as_slice())?;
         text.push_str("}\n")?;
         Ok(text)
     }
@@ -288,6 +292,6 @@ fn begin(alloc: Global, caption: Caption, shown: &Shown) -> Result<String, Alloc
         total: shown.total,
     };
     format!(in alloc;
-        "digraph execution {{\n  label=\"{title}{count}\";\n  labelloc=\"t\";\n  nodesep=1.4;\n  ranksep=0.7;\n  fontname=\"monospace\";\n  node [shape=\"box\", fontname=\"monospace\"];\n  edge [fontname=\"monospace\"];\n"
+        "digraph execution {{\n  label=\"{title}{count}\";\n  labelloc=\"t\";\n  newrank=true;\n  nodesep=0.3;\n  ranksep=0.15;\n  fontname=\"monospace\";\n  node [shape=\"box\", fontname=\"monospace\"];\n  edge [fontname=\"monospace\"];\n"
     )
 }

@@ -9,6 +9,10 @@ pub(crate) const FAULT_COLOUR: &str = "red";
 /// The attributes of a node or an edge in that colour, after others.
 pub(crate) const FAULT_COLOURS: &str = ", color=\"red\", fontcolor=\"red\"";
 
+/// The weight of the lines between the events of a thread, as an attribute after others: the heavier a line is, the
+/// straighter it is drawn.
+pub(crate) const SEQUENCED_WEIGHT: &str = ", weight=8";
+
 /// The name of a node.
 #[derive(Clone, Copy)]
 pub(crate) struct NodeName(pub EventId);

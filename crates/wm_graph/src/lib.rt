@@ -10,6 +10,7 @@ mod drawn;
 mod edges;
 mod fault_edges;
 mod forced;
+mod frame;
 mod label;
 mod lines;
 mod picture;

@@ -3,10 +3,10 @@
 use crate::cycle_edge::CycleKind;
 use crate::drawn::{DrawnEdge, DrawnKind};
 use crate::edges::{EdgeKind, ReadsFrom};
-use crate::label::NodeName;
+use crate::label::{FAULT_COLOUR, NodeName, SEQUENCED_WEIGHT};
 use std::alloc::AllocError;
 use std::fmt;
-use wm_event::{EventId, EventKey};
+use wm_event::{Candidate, EventId, EventKey};
 use wm_hb::LinkKind;
 
 /// Which bytes are read from a writer, if not all of them.
@@ -119,36 +119,113 @@ impl Relations {
         ]
     }
 
-    /// The width of a line, if it is a wide one.
-    fn width(self) -> &'static str {
-        if self.in_chain || self.in_cycle {
-            ", penwidth=2"
-        } else {
-            ""
-        }
+    /// Whether a line is a wide one.
+    fn is_wide(self) -> bool {
+        self.in_chain || self.in_cycle
     }
 
-    /// The attributes of a line, without its label and its width.
-    fn style(self) -> &'static str {
+    /// The colour of a line and of its label, unless they are black.
+    fn colour(self) -> Option<&'static str> {
         if self.in_chain {
-            return ", color=\"red\", fontcolor=\"red\"";
+            return Some(FAULT_COLOUR);
         }
         if self.synchronizes {
-            return ", color=\"blue\", fontcolor=\"blue\"";
+            return Some("blue");
         }
         if self.reads {
-            return ", color=\"darkgreen\", fontcolor=\"darkgreen\"";
+            return Some("darkgreen");
         }
         if self.coherence {
-            return ", style=\"dashed\", color=\"brown\", fontcolor=\"brown\"";
+            return Some("brown");
         }
         if self.from_read {
-            return ", style=\"dashed\", color=\"purple\", fontcolor=\"purple\"";
+            return Some("purple");
+        }
+        None
+    }
+
+    /// The pattern of a line, unless it is drawn through.
+    fn pattern(self) -> Option<&'static str> {
+        if self.in_chain || self.synchronizes || self.reads {
+            return None;
+        }
+        if self.coherence || self.from_read {
+            return Some("dashed");
         }
         if self.order {
-            return ", style=\"dotted\"";
+            return Some("dotted");
         }
-        ""
+        None
+    }
+}
+
+/// The attributes of a line that its relations give it.
+#[derive(Clone, Copy)]
+struct Look(Relations);
+
+impl fmt::Display for Look {
+    fn fmt<W: fmt::Write>(&self, f: &mut fmt::Formatter<W>) -> fmt::Result {
+        let Look(relations) = *self;
+        if let Some(pattern) = relations.pattern() {
+            write!(f, ", style=\"{pattern}\"")?;
+        }
+        if let Some(colour) = relations.colour() {
+            write!(f, ", color=\"{colour}\"")?;
+        }
+        if relations.is_wide() {
+            f.write_str(", penwidth=2")?;
+        }
+        if relations.sequenced {
+            f.write_str(SEQUENCED_WEIGHT)?;
+        }
+        Ok(())
+    }
+}
+
+/// The colour of a label, as an attribute.
+#[derive(Clone, Copy)]
+struct FontColour(Option<&'static str>);
+
+impl fmt::Display for FontColour {
+    fn fmt<W: fmt::Write>(&self, f: &mut fmt::Formatter<W>) -> fmt::Result {
+        match self.0 {
+            Some(colour) => write!(f, ", fontcolor=\"{colour}\""),
+            None => Ok(()),
+        }
+    }
+}
+
+/// Which way a line leads in the picture, where the events follow one another downwards in the order.
+#[derive(Clone, Copy)]
+enum Direction {
+    Down,
+    Up,
+}
+
+impl Direction {
+    /// The direction from one event to another.
+    fn between(candidate: &Candidate, from: EventId, to: EventKey) -> Direction {
+        let first = candidate.place(from).unwrap_or(0);
+        let second = candidate.place(EventId::At(to)).unwrap_or(0);
+        if second < first {
+            Direction::Up
+        } else {
+            Direction::Down
+        }
+    }
+}
+
+/// The name of the node that has the label of a line.
+#[derive(Clone, Copy)]
+struct LabelName {
+    from: EventId,
+    to: EventKey,
+}
+
+impl fmt::Display for LabelName {
+    fn fmt<W: fmt::Write>(&self, f: &mut fmt::Formatter<W>) -> fmt::Result {
+        let (from, to) = (NodeName(self.from), NodeName(EventId::At(self.to)));
+        write!(f, "{from}_to_{to}")
     }
 }
 
@@ -157,70 +234,9 @@ impl Relations {
 struct Line<'a> {
     from: EventId,
     to: EventKey,
+    direction: Direction,
     /// All edges that are drawn.
     edges: &'a [DrawnEdge],
-}
-
-/// How a line is drawn, so that it passes beside the nodes and its label beside the lines. Graphviz fails on some
-/// pictures ("trouble in init_rank") if such a line has a `label`, which takes up space.
-#[derive(Clone, Copy)]
-enum Course {
-    /// From Init, or down to the next node of a column.
-    Down,
-    /// From one side of a node to a side of another; the label is beside its start.
-    Across {
-        sides: &'static str,
-        /// Whether the label is to the right of the line, seen from its start.
-        is_label_right: bool,
-    },
-}
-
-impl Course {
-    /// The course from one event to another.
-    fn between(from: EventKey, to: EventKey) -> Course {
-        if from.thread == to.thread && from.number.checked_add(1) == Some(to.number) {
-            return Course::Down;
-        }
-        let leads_left = to.thread < from.thread;
-        let sides = if leads_left {
-            "tailport=w, headport=e"
-        } else if from.thread == to.thread {
-            "tailport=e, headport=e"
-        } else {
-            "tailport=e, headport=w"
-        };
-        let is_label_right = if from.number == to.number {
-            from.thread.abs_diff(to.thread) > 1
-        } else {
-            (to.number < from.number) != leads_left
-        };
-        Course::Across {
-            sides,
-            is_label_right,
-        }
-    }
-
-    /// What the attribute with the label is called.
-    fn label(self) -> &'static str {
-        match self {
-            Course::Down => "xlabel",
-            Course::Across { .. } => "taillabel",
-        }
-    }
-}
-
-impl fmt::Display for Course {
-    fn fmt<W: fmt::Write>(&self, f: &mut fmt::Formatter<W>) -> fmt::Result {
-        let Course::Across {
-            sides,
-            is_label_right,
-        } = *self
-        else {
-            return Ok(());
-        };
-        let angle = if is_label_right { "-40" } else { "40" };
-        write!(f, ", {sides}, labeldistance=4, labelangle={angle}")
-    }
 }
 
 impl Line<'_> {
@@ -229,11 +245,11 @@ impl Line<'_> {
         edge.from == self.from && edge.to == self.to
     }
 
-    /// How it is drawn.
-    fn course(&self) -> Course {
+    /// The thread in whose column it is, if it doesn't leave that.
+    fn column(&self) -> Option<u32> {
         match self.from {
-            EventId::Init => Course::Down,
-            EventId::At(from) => Course::between(from, self.to),
+            EventId::At(from) if from.thread == self.to.thread => Some(from.thread),
+            _ => None,
         }
     }
 
@@ -278,20 +294,44 @@ impl Line<'_> {
     }
 }
 
+impl Line<'_> {
+    /// Writes the node with the label, which is in the column of a thread if the line is.
+    fn write_node<W: fmt::Write>(&self, f: &mut fmt::Formatter<W>, name: LabelName) -> fmt::Result {
+        let column = self.column();
+        match column {
+            Some(thread) => write!(f, "  subgraph cluster_{thread} {{ ")?,
+            None => f.write_str("  ")?,
+        }
+        write!(f, "{name} [label=\"")?;
+        self.write_label(f)?;
+        let colour = FontColour(self.relations().colour());
+        write!(f, "\", shape=\"plain\"{colour}];")?;
+        if column.is_some() {
+            f.write_str(" }")?;
+        }
+        f.write_str("\n")
+    }
+}
+
+// A line is drawn from the upper of its ends over its label to the lower one. An edge's own label would lie on lines:
+// Graphviz lets no line pass through a node.
 impl fmt::Display for Line<'_> {
     fn fmt<W: fmt::Write>(&self, f: &mut fmt::Formatter<W>) -> fmt::Result {
-        let (from, to) = (NodeName(self.from), NodeName(EventId::At(self.to)));
-        let relations = self.relations();
-        let place = if relations.sequenced {
-            ""
-        } else {
-            ", constraint=false"
-        };
-        let course = self.course();
-        write!(f, "  {from} -> {to} [{}=\"", course.label())?;
-        self.write_label(f)?;
-        let (style, width) = (relations.style(), relations.width());
-        write!(f, "\"{style}{width}{course}{place}];")
+        let Line { from, to, .. } = *self;
+        let name = LabelName { from, to };
+        self.write_node(f, name)?;
+        let (from, to) = (NodeName(from), NodeName(EventId::At(to)));
+        let look = Look(self.relations());
+        match self.direction {
+            Direction::Down => {
+                writeln!(f, "  {from} -> {name} [dir=\"none\"{look}];")?;
+                write!(f, "  {name} -> {to} [dir=\"forward\"{look}];")
+            }
+            Direction::Up => {
+                writeln!(f, "  {to} -> {name} [dir=\"back\"{look}];")?;
+                write!(f, "  {name} -> {from} [dir=\"none\"{look}];")
+            }
+        }
     }
 }
 
@@ -300,11 +340,16 @@ impl fmt::Display for Line<'_> {
 /// # Errors
 ///
 /// Only if an allocation fails.
-pub(crate) fn add_lines(text: &mut String, edges: &[DrawnEdge]) -> Result<(), AllocError> {
+pub(crate) fn add_lines(
+    text: &mut String,
+    candidate: &Candidate,
+    edges: &[DrawnEdge],
+) -> Result<(), AllocError> {
     for (number, edge) in edges.iter().enumerate() {
         let line = Line {
             from: edge.from,
             to: edge.to,
+            direction: Direction::between(candidate, edge.from, edge.to),
             edges,
         };
         let is_first = !edges
