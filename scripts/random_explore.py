@@ -7,7 +7,8 @@ A module has two or three threads of a few accesses, plain and atomic, of 1 to 8
 branches on what was read, loops of at most two turns, and loops that wait by loads. The plain program
 (`wmlabtools/causal.py`) makes the accesses one after the other in each way, each byte read from any that was left
 there, and asks the memory model (`wmlabtools/model.py`) for an order. Each outcome that it finds has to be listed; of
-half of the modules, within a few events of a thread. Each document of `witnesses` has to have the outcome of its line,
+half of the modules, within a few events of a thread. The last line has `all` exactly if no bound was met and all
+accesses are atomic and of one width. Each document of `witnesses` has to have the outcome of its line,
 to be allowed by the model and by `wmlab check`, to be causal, and to be a run of the threads.
 
 A module that shows a difference, or takes longer than a process may, is kept in a folder. The last line is
@@ -15,31 +16,32 @@ A module that shows a difference, or takes longer than a process may, is kept in
 """
 from __future__ import annotations
 
+import dataclasses
 import json
 import os
 import random
 import re
 import subprocess
 import tempfile
-from collections.abc import Sequence
+from collections.abc import Iterator, Sequence
 from typing import Any, NamedTuple
 
 from wmlabtools import harness, model
 from wmlabtools.causal import Ends, State, Threads, TooMany
-from wmlabtools.small_threads import Function, module_of, random_functions
+from wmlabtools.small_threads import Function, Place, module_of, random_functions
 
 # The most states that the plain program looks at; a module with more is not tried.
 MOST_STATES = 5_000
 MANY_EVENTS = 64
 BOUND = r"graphs|nodes|steps thread \d+|events thread \d+"
-LAST = re.compile(rf"(explored|bounded) outcomes=(\d+) graphs=\d+(?: ({BOUND}))?")
-STATUS = {"explored": 0, "bounded": 1}
+LAST = re.compile(rf"(?:(explored)|bounded) outcomes=(\d+) graphs=\d+(?(1)( all)?| ({BOUND}))")
 
 
 class Listed(NamedTuple):
-    """What `explore` prints: the bound that it met, if any, and the outcomes."""
+    """What `explore` prints: the bound that it met, if any, whether it says `all`, and the outcomes."""
 
     bound: str | None
+    says_all: bool
     outcomes: list[Ends]
 
 
@@ -98,12 +100,30 @@ def listed(out: str, status: int) -> Listed:
     found = LAST.fullmatch(last)
     if not found:
         raise Difference(f"the last line is {last!r}")
-    word, count, bound = found.groups()
-    expect(status == STATUS[word] and (bound is None) == (word == "explored"), f"{last!r} with status {status}")
+    explored, count, says_all, bound = found.groups()
+    expect(status == (0 if explored else 1), f"{last!r} with status {status}")
     expect(all(line.startswith("outcome ") for line in lines), f"not a line of an outcome: {lines}")
     expect(lines == sorted(set(lines), key=str.encode), f"the lines are not sorted: {lines}")
     expect(int(count) == len(lines), f"{last!r} after {len(lines)} lines")
-    return Listed(bound, [tuple(line.split(" ")[1:]) for line in lines])
+    return Listed(bound, bool(says_all), [tuple(line.split(" ")[1:]) for line in lines])
+
+
+def places(part: object) -> Iterator[Place]:
+    """What the accesses of some code are of."""
+    if isinstance(part, Place):
+        yield part
+    elif isinstance(part, (list, tuple)):
+        for each in part:
+            yield from places(each)
+    elif dataclasses.is_dataclass(part):
+        for field in dataclasses.fields(part):
+            yield from places(getattr(part, field.name))
+
+
+def is_uniform(functions: Sequence[Function]) -> bool:
+    """Whether all accesses are atomic and of one width."""
+    accessed = list(places(functions))
+    return all(place.atomic for place in accessed) and len({place.width for place in accessed}) <= 1
 
 
 def end_text(end: Sequence[Any]) -> str:
@@ -172,6 +192,8 @@ def compare(wmlab: str, case: Case, path: str) -> None:
     expect(found.bound != "nodes", f"a search gave up: {out}")
     missing = case.wanted(found.bound) - set(found.outcomes)
     expect(not missing, f"not listed: {sorted(missing)} in {out}")
+    uniform = found.bound is None and is_uniform(case.functions)
+    expect(found.says_all == uniform, f"{'all' if uniform else 'not all'} are covered, and it says {out}")
     documents, err, again = harness.run(wmlab, case.words("witnesses", path))
     lines = documents.split("\n")[:-1]
     expect((err, again) == ("", status), f"witnesses: status {again} after {status}: {err}")

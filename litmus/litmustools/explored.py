@@ -8,7 +8,7 @@ from typing import Any
 
 from .judges import Failed
 
-LAST = re.compile(r"explored outcomes=\d+ graphs=\d+|bounded outcomes=\d+ graphs=\d+ (.+)")
+LAST = re.compile(r"explored outcomes=\d+ graphs=\d+(?: all)?|bounded outcomes=\d+ graphs=\d+ (.+)")
 
 
 @dataclass(frozen=True)

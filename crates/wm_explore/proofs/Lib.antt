@@ -26,4 +26,6 @@ pub mod Replacing
 pub mod Shortening
 pub mod StandardLaw
 pub mod UniformLaw
+pub mod Stemming
+pub mod UniformModules
 pub mod Exploring

@@ -11,9 +11,11 @@ mod law;
 mod search;
 mod state;
 mod turn;
+mod uniform;
 mod values;
 
 pub use bound::{Bound, Limits};
 pub use exploration::{Exploration, Finished};
 pub use law::{causal_is_standard, explored_is_standard, uniform_is_causal};
 pub use search::explore;
+pub use uniform::{is_uniform, uniform_is_not_mixed};

@@ -3,6 +3,7 @@ pub mod JudgedDocuments
 pub mod Pieces
 pub mod OwnVerdicts
 pub mod Counting
+pub mod Covering
 pub mod Gathering
 pub mod Tabling
 pub mod Padding

@@ -31,8 +31,11 @@ line_added line xs n x text written within is before more =
 
 -- ---- the last line
 
-pub explored_line : (n g : List ℕ) → ended (codes "explored" ++ (codes " outcomes=" ++ (n ++ (codes " graphs=" ++ g)))) ≡ codes "explored outcomes=" ++ (n ++ (codes " graphs=" ++ (g ++ 10 ∷ [])))
-explored_line n g = ap (λ t. codes "explored outcomes=" ++ t) (append_assoc n (codes " graphs=" ++ g) (10 ∷ []))
+pub explored_line : (n g a : List ℕ) → ended (codes "explored" ++ ((codes " outcomes=" ++ (n ++ (codes " graphs=" ++ g))) ++ a))
+    ≡ codes "explored outcomes=" ++ (n ++ (codes " graphs=" ++ (g ++ (a ++ 10 ∷ []))))
+explored_line n g a =
+    ap (λ t. codes "explored outcomes=" ++ t)
+    (append_assoc (n ++ (codes " graphs=" ++ g)) a (10 ∷ []) ∙ append_assoc n (codes " graphs=" ++ g) (a ++ 10 ∷ []))
 
 pub bounded_line : (n g b : List ℕ) → ended (codes "bounded" ++ ((codes " outcomes=" ++ (n ++ (codes " graphs=" ++ g))) ++ (codes " " ++ b)))
     ≡ codes "bounded outcomes=" ++ (n ++ (codes " graphs=" ++ (g ++ (codes " " ++ (b ++ 10 ∷ [])))))

@@ -197,7 +197,7 @@ of_rounds_words known count starts status text (rounds_words_no_rounds fault oth
 of_explore : (status : ℕ) (text bytes : List ℕ) (listing : Listing) (words : Exploration) → AnswersExplore listing bytes words status text → status < 3
 of_explore status text bytes listing words (explore_no_module refusal refused is line) = omega (arith, is)
 of_explore status text bytes listing words (explore_refused code fault of other at is line) = omega (arith, is)
-of_explore status text bytes listing words (explore_explored code e rows of explores are is line) = omega (arith, is, of_met e.met)
+of_explore status text bytes listing words (explore_explored code e coverage rows of explores covers finds are is line) = omega (arith, is, of_met e.met)
   where
     of_met : (met : Option Bound) → status_by met < 2
     of_met None = omega arith

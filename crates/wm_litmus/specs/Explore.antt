@@ -14,17 +14,23 @@ use Rattle.wm_command.specs.declared.fault.WordFault.TheVariants as word
 use Rattle.wm_command.specs.declared.words.Exploration.{Exploration as Words}
 use Rattle.wm_command.specs.Words.{IsExplorationOf, SpellNoExploration}
 use Rattle.wm_decode.specs.Bounds.{max_module_bytes}
+use Rattle.wm_event.specs.declared.log.Start.{Start}
 use Rattle.wm_event.specs.Fitting.{FitsLog}
+use Rattle.wm_event.specs.LoggedRun.{LoggedRun, execution}
 use Rattle.wm_explore.specs.declared.bound.Bound.{Bound}
 use Rattle.wm_explore.specs.declared.bound.Bound.TheVariants.{Graphs, Nodes, Steps, Events}
 use Rattle.wm_explore.specs.declared.exploration.Exploration.{Exploration}
 use Rattle.wm_explore.specs.declared.exploration.Finished.{Finished}
-use Rattle.wm_explore.specs.Search.{Explores}
+use Rattle.wm_explore.specs.Executions.{IsCausal, IsExecutionOf, ends_of}
+use Rattle.wm_explore.specs.Search.{Explores, Lists}
+use Rattle.wm_explore.specs.Uniform.{IsMixedModule, IsUniformModule, LeavesOutNone}
 use Rattle.wm_logfile.specs.Document.{document_2}
 use Rattle.wm_run.specs.declared.fault.RunFault.{RunFault}
 use Rattle.wm_run.specs.declared.fault.RunFault.TheVariants.{OutOfMemory}
 use Rattle.wm_run.specs.Refusal.{IsScriptFault}
 use Rattle.wm_litmus.specs.declared.answer.Answer.{Answer}
+use Rattle.wm_litmus.specs.declared.explore.Coverage.{Coverage}
+use Rattle.wm_litmus.specs.declared.explore.Coverage.TheVariants.{Causal, Every}
 use Rattle.wm_litmus.specs.declared.explore.Listing.{Listing}
 use Rattle.wm_litmus.specs.declared.explore.Listing.TheVariants.{Outcomes, Documents}
 use Rattle.wm_litmus.specs.declared.explore.OutcomeRow.{OutcomeRow}
@@ -67,12 +73,16 @@ bound_text (Events thread) = codes "events thread " ++ decimal thread
 abbrev pub counts_text : Exploration → List ℕ
 counts_text e = codes " outcomes=" ++ (decimal (length e.finished) ++ (codes " graphs=" ++ decimal e.graphs))
 
-abbrev pub last_by : Exploration → Option Bound → List ℕ
-last_by e None = ended (codes "explored" ++ counts_text e)
-last_by e (Some bound) = ended (codes "bounded" ++ (counts_text e ++ (codes " " ++ bound_text bound)))
+abbrev pub coverage_text : Coverage → List ℕ
+coverage_text Every = codes " all"
+coverage_text Causal = []
 
-abbrev pub last_text : Exploration → List ℕ
-last_text e = last_by e e.met
+abbrev pub last_by : Exploration → Coverage → Option Bound → List ℕ
+last_by e coverage None = ended (codes "explored" ++ (counts_text e ++ coverage_text coverage))
+last_by e coverage (Some bound) = ended (codes "bounded" ++ (counts_text e ++ (codes " " ++ bound_text bound)))
+
+abbrev pub last_text : Exploration → Coverage → List ℕ
+last_text e coverage = last_by e coverage e.met
 
 abbrev pub status_by : Option Bound → ℕ
 status_by None = 0
@@ -82,16 +92,30 @@ abbrev pub status_of : Exploration → ℕ
 status_of e = status_by e.met
 
 -- what is printed of an exploration whose rows these are
-abbrev pub listing_text : Listing → Exploration → List OutcomeRow → List ℕ
-listing_text Outcomes e rows = flat_map outcome_line rows ++ last_text e
-listing_text Documents e rows = flat_map document_line rows
+abbrev pub listing_text : Listing → Exploration → Coverage → List OutcomeRow → List ℕ
+listing_text Outcomes e coverage rows = flat_map outcome_line rows ++ last_text e coverage
+listing_text Documents e coverage rows = flat_map document_line rows
 
 -- an answer prints the rows of an exploration
-pub record PrintsListing (listing : Listing) (e : Exploration) (answer : Answer) : Type 0 where
+pub record PrintsListing (listing : Listing) (e : Exploration) (coverage : Coverage) (answer : Answer) : Type 0 where
   pub rows : List OutcomeRow
   pub are_rows : AreRows e.finished rows
   pub status_is : answer.status ≡ status_of e
-  pub text_is : string_bytes answer.text ≡ listing_text listing e rows
+  pub text_is : string_bytes answer.text ≡ listing_text listing e coverage rows
+
+-- ---- what it covers
+
+-- it covers all executions of the module exactly if all accesses of the module are atomic and have one width
+abbrev pub Covers : Module → Coverage → Type 0
+Covers m Every = IsUniformModule m × LeavesOutNone m
+Covers m Causal = IsMixedModule m
+
+-- without a bound the outcome of each execution that is covered was found: with `all` that of every valid execution of the
+-- module in which each thread ends
+abbrev pub FindsCovered : Module → List Start → Exploration → Coverage → Type 0
+FindsCovered m starts e Every = e.met ≡ None → (x : LoggedRun) → IsExecutionOf m starts x → Lists e.finished (ends_of x.log)
+FindsCovered m starts e Causal =
+    e.met ≡ None → (x : LoggedRun) → IsExecutionOf m starts x → IsCausal (execution x) → Lists e.finished (ends_of x.log)
 
 -- ---- the answers
 
@@ -102,9 +126,10 @@ pub data AnswersExplore (listing : Listing) (module_bytes : List ℕ) (words : W
   -- the threads aren't started
   refused : («module» : Module) (fault : RunFault) → IsModuleOf module_bytes «module» → fault ≢ OutOfMemory → IsScriptFault «module» words.plan [] fault
       → status ≡ 2 → text ≡ ended (run_fault_line_text fault) → AnswersExplore listing module_bytes words status text
-  -- what was found of the module, and whether a bound was met
-  explored : («module» : Module) (e : Exploration) (rows : List OutcomeRow) → IsModuleOf module_bytes «module» → Explores «module» words.plan.starts words.events e → AreRows e.finished rows
-      → status ≡ status_of e → text ≡ listing_text listing e rows → AnswersExplore listing module_bytes words status text
+  -- what was found of the module, whether a bound was met, and what is covered
+  explored : («module» : Module) (e : Exploration) (coverage : Coverage) (rows : List OutcomeRow) → IsModuleOf module_bytes «module»
+      → Explores «module» words.plan.starts words.events e → Covers «module» coverage → FindsCovered «module» words.plan.starts e coverage → AreRows e.finished rows
+      → status ≡ status_of e → text ≡ listing_text listing e coverage rows → AnswersExplore listing module_bytes words status text
 
 -- an answer to an exploration, whichever bytes spell the module
 abbrev pub ExploresOver : Listing → Module → Words → Answer → Type 0

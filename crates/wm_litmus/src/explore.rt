@@ -3,7 +3,7 @@ ghost use Rattle.std.specs.Prelude.{◌≡◌, IfOk, Some, string_bytes};
 ghost use Rattle.std.specs.List.{flat_map};
 ghost use Rattle.wm_event.specs.Fitting.{FitsLog};
 ghost use Rattle.wm_litmus.specs.Prints.{Gives};
-ghost use Rattle.wm_litmus.specs.Explore.{AnswersExplore, AreRows, ExploresOver, FitTheirLogs, IsRowOf, PrintsListing, bound_text, document_line, last_text, outcome_line, status_of};
+ghost use Rattle.wm_litmus.specs.Explore.{AnswersExplore, AreRows, Covers, ExploresOver, FitTheirLogs, IsRowOf, PrintsListing, bound_text, coverage_text, document_line, last_text, outcome_line, status_of};
 
 use crate::answer::Answer;
 use crate::outcomes::outcome_of;
@@ -11,7 +11,7 @@ use std::alloc::{AllocError, Global};
 use std::fmt;
 use wm_check::read_module;
 use wm_command::Exploration as Words;
-use wm_explore::{Bound, Exploration, Finished, Limits, explore};
+use wm_explore::{Bound, Exploration, Finished, Limits, explore, is_uniform};
 use wm_logfile::write_document;
 use wm_run::{RunFault, drive};
 use wm_valid::ValidModule;
@@ -52,6 +52,38 @@ impl fmt::Display for BoundText {
             Bound::Steps(thread) => write!(f, "steps thread {thread}"),
             Bound::Events(thread) => write!(f, "events thread {thread}"),
         }
+    }
+}
+
+/// Which executions of a module an exploration covers.
+#[derive(Clone, Copy)]
+enum Coverage {
+    /// All of them.
+    Every,
+    /// Those that are causal.
+    Causal,
+}
+
+/// Prints the coverage, as the last line has it.
+impl fmt::Display for Coverage {
+    ghost output = { λ coverage. Some (coverage_text coverage) };
+
+    fn fmt<W: fmt::Write>(&self, f: &mut fmt::Formatter<W>) -> fmt::Result {
+        match self {
+            Coverage::Every => f.write_str(" all"),
+            Coverage::Causal => Ok(()),
+        }
+    }
+}
+
+/// Which executions of a module an exploration covers.
+fn coverage_of(module: &ValidModule) -> Coverage
+    ensures { Covers «module».now result }
+{
+    if is_uniform(module) {
+        Coverage::Every
+    } else {
+        Coverage::Causal
     }
 }
 
@@ -105,13 +137,17 @@ fn document_lines(alloc: Global, rows: &[OutcomeRow]) -> Result<String, AllocErr
 }
 
 /// The line on an exploration.
-fn last_line(alloc: Global, exploration: &Exploration) -> Result<String, AllocError>
-    ensures { IfOk result (λ text. string_bytes text ≡ last_text exploration.now) }
+fn last_line(
+    alloc: Global,
+    exploration: &Exploration,
+    coverage: Coverage,
+) -> Result<String, AllocError>
+    ensures { IfOk result (λ text. string_bytes text ≡ last_text exploration.now coverage) }
 {
     let outcomes = exploration.finished.len();
     let graphs = exploration.graphs;
     match exploration.met {
-        None => format!(in alloc; "explored outcomes={outcomes} graphs={graphs}\n"),
+        None => { format!(in alloc; "explored outcomes={outcomes} graphs={graphs}{coverage}\n") }
         Some(bound) => {
             let bound = BoundText(bound);
             format!(in alloc; "bounded outcomes={outcomes} graphs={graphs} {bound}\n")
@@ -130,9 +166,14 @@ fn exit_status(exploration: &Exploration) -> u8
 }
 
 /// What is printed of an exploration.
-fn listed(alloc: Global, listing: Listing, exploration: &Exploration) -> Result<Answer, AllocError>
+fn listed(
+    alloc: Global,
+    listing: Listing,
+    exploration: &Exploration,
+    coverage: Coverage,
+) -> Result<Answer, AllocError>
     requires { FitTheirLogs exploration.now.finished }
-    ensures { IfOk result (PrintsListing listing exploration.now) }
+    ensures { IfOk result (PrintsListing listing exploration.now coverage) }
 {
     let rows = outcome_rows(alloc, exploration.finished.as_slice())?;
     let status = exit_status(exploration);
@@ -140,7 +181,7 @@ fn listed(alloc: Global, listing: Listing, exploration: &Exploration) -> Result<
         Listing::Documents => document_lines(alloc, rows.as_slice())?,
         Listing::Outcomes => {
             let mut text = outcome_lines(alloc, rows.as_slice())?;
-            let last = last_line(alloc, exploration)?;
+            let last = last_line(alloc, exploration, coverage)?;
             text.push_str(last.as_str())?;
             text
         }
@@ -169,7 +210,7 @@ fn explored(
         nodes: MAX_NODES,
     };
     let exploration = explore(alloc, module, words.plan.starts.as_slice(), limits)?;
-    listed(alloc, listing, &exploration)
+    listed(alloc, listing, &exploration, coverage_of(module))
 }
 
 /// The answer to the bytes of a module and an exploration.

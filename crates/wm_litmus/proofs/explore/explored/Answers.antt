@@ -6,6 +6,7 @@ use Rattle.wm_event.proofs.FittingLemmas.{fits_log}
 use Rattle.wm_explore.specs.Search.{Explores}
 use Rattle.wm_run.specs.declared.fault.RunFault.TheVariants.{OutOfMemory}
 use Rattle.wm_litmus.specs.Explore.AnswersExplore.{explored, refused}
+use Rattle.wm_litmus.proofs.Covering.{finds_covered}
 use Rattle.wm_litmus.proofs.explore.explored.Goals as goal
 
 pub explore-requires : goal.explore-requires
@@ -30,5 +31,7 @@ returns c =
     let words = c.args.words.now in
     let e = c.in_ok-exploration.exploration in
     let explores = subst (λ starts. Explores m starts words.events e) c.as_slice.ensures c.in_ok-exploration.ensures in
+    let covers = c.coverage_of.ensures in
+    let finds = finds_covered m words.plan.starts words.events e c.coverage_of.result explores covers in
     IfOk-weaker c.listed.result _ _
-    (λ answer prints module_bytes modules. explored m e prints.rows modules explores prints.are_rows prints.status_is prints.text_is) c.listed.ensures
+    (λ answer prints module_bytes modules. explored m e c.coverage_of.result prints.rows modules explores covers finds prints.are_rows prints.status_is prints.text_is) c.listed.ensures

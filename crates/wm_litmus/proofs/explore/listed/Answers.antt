@@ -15,10 +15,10 @@ returns c =
       text_is = elim c.match-listing.branch [
         | in-Documents+in_ok-text-in-Documents w ↦
             ap (λ text. string_bytes text) w.text-is ∙ w.in_ok-text-in-Documents.ensures ∙ ap (flat_map document_line) w.as_slice-in-Documents.ensures.value
-            ∙ sym (ap (λ listing. listing_text listing e rows) w.in-Documents.is)
+            ∙ sym (ap (λ listing. listing_text listing e c.args.coverage rows) w.in-Documents.is)
         | in-Outcomes+in_ok-text-in-Outcomes+in_ok-last-in-Outcomes+in_ok-push_str-in-Outcomes w ↦
             ap (λ text. string_bytes text) w.text-is ∙ w.in_ok-push_str-in-Outcomes.ensures.bytes
             ∙ ap₂ (λ a b. a ++ b) (w.in_ok-text-in-Outcomes.ensures ∙ ap (flat_map outcome_line) w.as_slice-in-Outcomes.ensures.value) (w.as_str.ensures.value ∙ w.in_ok-last-in-Outcomes.ensures)
-            ∙ sym (ap (λ listing. listing_text listing e rows) w.in-Outcomes.is)
+            ∙ sym (ap (λ listing. listing_text listing e c.args.coverage rows) w.in-Outcomes.is)
       ];
     }
