@@ -106,10 +106,10 @@ module _ (initial : List ℕ) (s : State) (e : Event) (knows : KnowsPast initial
 
       not_begin : (w : EventId) → ReadsFrom (execution x) b 0 w → CannotBegin initial s before e w → ⊥
       not_begin w from (inl c) = cannot 0 w from c
-      not_begin w from (inr (k, none)) = by (none.1 u.0 (source k u.0 u.1))
+      not_begin w from (inr (k, lt, none)) = by (none u.0 (source k u.0 u.1))
         where
           u : (v : EventId) × ReadsFrom (execution x) b k v
-          u = writer k none.0
+          u = writer k lt
 
           by : AreApart s.log e w u.0 ⊎ CannotGive initial s before e k u.0 → ⊥
           by (inl are) = apart w u.0 k are from u.1

@@ -118,12 +118,12 @@ abbrev pub CannotGiveBeside : List ℕ → State → Clock → Event → EventId
 CannotGiveBeside initial s c e w k u = AreApart s.log e w u ⊎ CannotGive initial s c e k u
 
 -- byte k of e is from nothing if its lowest byte is from w
-abbrev pub CannotBeginAt : List ℕ → State → Clock → Event → EventId → ℕ → Type 0
-CannotBeginAt initial s c e w k = (k < bytes_of e.width) × ((u : EventId) → IsSource s u → CannotGiveBeside initial s c e w k u)
+abbrev pub HasNoSource : List ℕ → State → Clock → Event → EventId → ℕ → Type 0
+HasNoSource initial s c e w k = (u : EventId) → IsSource s u → CannotGiveBeside initial s c e w k u
 
 -- the lowest byte of e isn't from w
 abbrev pub CannotBegin : List ℕ → State → Clock → Event → EventId → Type 0
-CannotBegin initial s c e w = CannotGive initial s c e 0 w ⊎ ((k : ℕ) × CannotBeginAt initial s c e w k)
+CannotBegin initial s c e w = CannotGive initial s c e 0 w ⊎ ((k : ℕ) × (k < bytes_of e.width) × HasNoSource initial s c e w k)
 
 -- e synchronizes with key, which arrived at this place, if it takes a byte from it; and the clock there counts a
 pub record Gains (s : State) (e : Event) (place : ℕ) (key a : EventKey) : Type 0 where

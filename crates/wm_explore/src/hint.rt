@@ -183,7 +183,7 @@ impl<'a> Taking<'a> {
         }
     }
 
-    /// The last place in the order that the reader can have.
+    /// A place in the order that the reader can have: the first one, so that the next events of its thread can have the most.
     fn place(&self, order: &[Happened]) -> Option<usize> {
         let mut earliest = 0usize;
         let mut latest = order.len();
@@ -198,14 +198,16 @@ impl<'a> Taking<'a> {
             }
         }
         // A write in the middle could come between others.
-        let is_fixed = self.reader.writes() && latest < order.len();
-        if is_fixed || latest < earliest {
+        if self.reader.writes() {
+            earliest = order.len();
+        }
+        if latest < earliest {
             return None;
         }
-        Some(latest)
+        Some(earliest)
     }
 
-    /// The reader at the last place that it can have.
+    /// The reader at a place that it can have.
     fn spot(&self, order: &[Happened]) -> Option<Spot> {
         let place = self.place(order)?;
         Some(Spot {

@@ -5,7 +5,7 @@ ghost use Rattle.wm_event.specs.Rules.{IsTearFree};
 ghost use Rattle.wm_event.specs.declared.event.EventId.{EventId};
 ghost use Rattle.wm_event.specs.declared.event.Event.{Event};
 ghost use Rattle.wm_event.specs.declared.event.EventId.TheVariants.{At, Init};
-ghost use Rattle.wm_explore.specs.Past.{AreApart, AreGainedAt, CannotBegin, CannotGive, CannotGiveBeside, FindsCommon, FindsFor, FindsPast, Hides, IsAfter, IsEarlier, IsLike, IsSource, IsThreadPast, KnowsPast, left_by};
+ghost use Rattle.wm_explore.specs.Past.{AreApart, AreGainedAt, CannotBegin, CannotGive, CannotGiveBeside, FindsCommon, FindsFor, FindsPast, HasNoSource, Hides, IsAfter, IsEarlier, IsLike, IsThreadPast, KnowsPast, left_by};
 
 use crate::clock::Clock;
 use crate::state::State;
@@ -193,7 +193,7 @@ fn has_source(
     byte: u8,
 ) -> bool
     requires { byte < 8 }
-    ensures { result ≡ false → (u : EventId) → IsSource state.now u → CannotGiveBeside initial.now state.now before.now next.now first byte u }
+    ensures { result ≡ false → HasNoSource initial.now state.now before.now next.now first byte }
 {
     if can_give(state, initial, before, next, byte, first) {
         return true;
