@@ -16,6 +16,7 @@ use Rattle.wm_explore.specs.Executions.{IsCausal, IsExecutionOf, IsOutcome, IsOu
 use Rattle.wm_explore.specs.Search.{AreApart, Covers, CoversFor, Explores, Extends, IsFirstState, IsFound, IsProgress, Lists}
 use Rattle.wm_explore.specs.Idle.{HasIdleTurn, StandsFor}
 use Rattle.wm_explore.specs.Search.Covers.{left, listed, excused}
+use Rattle.wm_explore.specs.Known.{IsNoted}
 use Rattle.wm_explore.specs.States.{GoesOn, IsState, count_in}
 use Rattle.wm_explore.specs.declared.bound.Bound.TheVariants.{Graphs, Nodes, Steps, Events}
 use Rattle.wm_explore.specs.declared.bound.Bound.{Bound}
@@ -96,9 +97,19 @@ module _ (starts : List Start) (s : State) (first : IsFirstState starts s) where
 
   -- what there is at the beginning
   module _ (m : Module) (events : ℕ) (p : Progress) (work : p.work.items ≡ s ∷ []) (nothing : p.finished.items ≡ []) where
+    noted_nothing : IsNoted m s
+    noted_nothing = record {
+      nexts = λ k t next at_t at_next. absurd (none-some (Some next) (ap (λ ns. slice_get ns k) (sym first.known) ∙ at_next));
+      past = λ initial is. record {
+        count = ap length first.clocks ∙ ap length (sym first.arrived);
+        past = λ x has i b c at at_clock. absurd (none-some b (ap (λ ks. slice_get ks i) (sym first.arrived) ∙ at));
+      };
+    }
+
     pub begins : IsProgress m starts p
     begins = record {
       states = subst (All (IsState starts)) (sym work) (all_pushed (IsState starts) [] s (all_at (IsState starts) [] (λ i v at. absurd (none-some v at))) first_is_state);
+      noted = subst (All (IsNoted m)) (sym work) (all_pushed (IsNoted m) [] s (all_at (IsNoted m) [] (λ i v at. absurd (none-some v at))) noted_nothing);
       found = subst (All (IsFound m starts)) (sym nothing) (all_at (IsFound m starts) [] (λ i f at. absurd (none-some f at)));
       apart = subst AreApart (sym nothing) (λ i j f g lt at. absurd (none-some f at));
     }
@@ -134,9 +145,13 @@ module _ (m : Module) (starts : List Start) (events : ℕ) (p : Progress) (progr
   pub taken_is_state : IsState starts s
   taken_is_state = at_all (IsState starts) p.work.items progress.states (length q.work.items) s (ap (λ ss. slice_get ss (length q.work.items)) popped ∙ last_pushed q.work.items s)
 
+  pub taken_noted : IsNoted m s
+  taken_noted = at_all (IsNoted m) p.work.items progress.noted (length q.work.items) s (ap (λ ss. slice_get ss (length q.work.items)) popped ∙ last_pushed q.work.items s)
+
   pub rest_progress : IsProgress m starts q
   rest_progress = record {
     states = all_at (IsState starts) q.work.items (λ i v at. at_all (IsState starts) p.work.items progress.states i v (ap (λ ss. slice_get ss i) popped ∙ kept_pushed q.work.items s i v at));
+    noted = all_at (IsNoted m) q.work.items (λ i v at. at_all (IsNoted m) p.work.items progress.noted i v (ap (λ ss. slice_get ss i) popped ∙ kept_pushed q.work.items s i v at));
     found = subst (λ fs. All (IsFound m starts) fs.items) (sym same_finished) progress.found;
     apart = subst (λ fs. AreApart fs.items) (sym same_finished) progress.apart;
   }

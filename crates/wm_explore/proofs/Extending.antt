@@ -24,6 +24,7 @@ use Rattle.wm_replay.specs.declared.continuing.Next.TheVariants.{Access, Unknown
 use Rattle.wm_explore.specs.Bounds.{Excuses}
 use Rattle.wm_explore.specs.Executions.{IsExecutionOf, IsWithin}
 use Rattle.wm_explore.specs.Search.{Extends, IsProgress}
+use Rattle.wm_explore.specs.Known.{IsNoted}
 use Rattle.wm_explore.specs.States.{GoesOn, IsChild, IsState}
 use Rattle.wm_explore.specs.Turns.{IsAtBound, IsStuck, MakesNext, OfThread}
 use Rattle.wm_explore.specs.declared.bound.Bound.{Bound}
@@ -75,9 +76,9 @@ module _ (m : Module) (starts : List Start) (events : ℕ) (s : State) (fine : I
     abbrev e : Event
     e = event_made (record { thread = k; number = length makes.thread.events }) op 0
 
-    pub writes : IsChild k e s child → Extends m starts events s p q
-    writes is_child = extends m starts events s p q
-        (pushed_progress m starts events p q same_finished same_met child pushed progress (is_state s k makes.thread makes.is_thread e refl starts fine child is_child))
+    pub writes : IsChild k e s child → IsNoted m child → Extends m starts events s p q
+    writes is_child knows = extends m starts events s p q
+        (pushed_progress m starts events p q same_finished same_met child pushed progress (is_state s k makes.thread makes.is_thread e refl starts fine child is_child) knows)
         (pushed_more m starts events p q same_finished same_met child pushed)
         (λ x is causal on. pushed_left m starts events p q same_finished same_met child pushed x (goes x is on))
       where

@@ -8,6 +8,8 @@ pub mod Beginnings
 pub mod Alike
 pub mod Children
 pub mod Permitted
+pub mod PastLaw
+pub mod Pasts
 pub mod Readings
 pub mod Finishing
 pub mod Waiting

@@ -17,6 +17,7 @@ use Rattle.wm_explore.specs.Executions.{IsCausal, IsExecutionOf, IsFinished, end
 use Rattle.wm_explore.specs.Judging.{IsAllowedWith, LooksBack, run_with}
 use Rattle.wm_explore.specs.Search.{AreApart, Covers, Extends, IsFound, IsProgress, Lists, Takes}
 use Rattle.wm_explore.specs.Search.Covers.{left, listed, excused}
+use Rattle.wm_explore.specs.Known.{IsNoted}
 use Rattle.wm_explore.specs.States.{GoesOn, IsState}
 use Rattle.wm_explore.specs.Turns.{EachEndsIn}
 use Rattle.wm_explore.specs.declared.exploration.Finished.{Finished}
@@ -143,6 +144,7 @@ module _ (m : Module) (starts : List Start) (events : ℕ) (s : State) where
               extends p q
               (record {
                 states = subst (All (IsState starts)) (sym same_work) progress.states;
+                noted = subst (All (IsNoted m)) (sym same_work) progress.noted;
                 found = subst (All (IsFound m starts)) (sym pushed) (all_pushed (IsFound m starts) p.finished.items one progress.found is_found);
                 apart = subst AreApart (sym pushed) apart;
               })
@@ -160,6 +162,7 @@ module _ (m : Module) (starts : List Start) (events : ℕ) (s : State) where
       extends p q
       (record {
         states = subst (All (IsState starts)) (sym same_work) progress.states;
+        noted = subst (All (IsNoted m)) (sym same_work) progress.noted;
         found = subst (All (IsFound m starts)) (sym same_finished) progress.found;
         apart = subst AreApart (sym same_finished) progress.apart;
       })

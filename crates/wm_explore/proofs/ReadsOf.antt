@@ -1,10 +1,11 @@
 -- The states that a read adds, one after the other.
-use Rattle.std.proofs.Common.{◌≡◌, ℕ, ◌+◌, ◌<◌, ◌≤◌, true, List, [], ◌∷◌, ◌++◌, length, inl, inr, Option, Some, refl, sym, ap, subst, ◌∙◌, arith}
+use Rattle.std.proofs.Common.{◌≡◌, ℕ, ◌+◌, ◌<◌, ◌≤◌, true, List, [], ◌∷◌, ◌++◌, length, inl, inr, Option, None, Some, refl, sym, ap, subst, ◌∙◌, arith}
 use Rattle.std.specs.Prelude.{◌⊎◌, All, slice_get}
-use Rattle.std.proofs.lemmas.Option.{same_Some, slice_get_within}
+use Rattle.std.proofs.lemmas.Option.{none-some, same_Some, slice_get_within}
 use Rattle.wm_ast.specs.declared.module.Module.{Module}
 use Rattle.wm_event.specs.LoggedRun.{LoggedRun, execution}
 use Rattle.wm_event.specs.Op.{event_made, kind_finds}
+use Rattle.wm_event.specs.declared.event.Event.{Event}
 use Rattle.wm_event.specs.declared.log.Start.{Start}
 use Rattle.wm_event.specs.declared.log.ThreadLog.{ThreadLog}
 use Rattle.wm_event.specs.declared.op.OpFields.{OpFields}
@@ -13,15 +14,20 @@ use Rattle.wm_replay.specs.Continuing.{HasNextBy}
 use Rattle.wm_explore.specs.Executions.{IsCausal, IsExecutionOf}
 use Rattle.wm_explore.specs.Bounds.{IsExcused}
 use Rattle.wm_explore.specs.Judging.{IsAllowedWith, LooksBack, run_with}
-use Rattle.wm_explore.specs.Search.{AddsPermitted, AreApart, Covers, Extends, IsFound, IsProgress, Keeps}
+use Rattle.wm_explore.specs.Past.{KnowsPast}
+use Rattle.wm_explore.proofs.Pasts.{forbidden, knows_child, knows_too}
+use Rattle.wm_replay.specs.declared.continuing.Next.{Next}
+use Rattle.wm_event.specs.Event.{key_of}
+use Rattle.wm_explore.specs.Search.{AddsPermitted, AddsRead, AreApart, Covers, Extends, IsFound, IsProgress, Keeps}
 use Rattle.wm_explore.specs.Search.Covers.{left}
-use Rattle.wm_explore.specs.States.{GoesOn, IsChild, IsMarked, IsState}
-use Rattle.wm_explore.specs.Turns.{MakesNext}
+use Rattle.wm_explore.specs.Known.{IsMade, IsNoted, KnowsNexts}
+use Rattle.wm_explore.specs.States.{GoesOn, IsAlike, IsChild, IsMarked, IsState, extended}
+use Rattle.wm_explore.specs.Turns.{AreNexts, MakesNext}
 use Rattle.wm_explore.specs.Values.{ReadsAll}
 use Rattle.wm_explore.specs.declared.search.Progress.{Progress}
 use Rattle.wm_explore.specs.declared.state.State.{State}
 use Rattle.wm_explore.proofs.Beginnings.{ended_run, whole_thread}
-use Rattle.wm_explore.proofs.Children.{HasWriters, LacksWriter, goes_on, goes_on_marked, has_or_lacks, is_state, marked_is_state}
+use Rattle.wm_explore.proofs.Children.{HasWriters, LacksWriter, goes_on, goes_on_marked, has_or_lacks, is_state, marked_is_state, next_key}
 use Rattle.wm_explore.proofs.Items.{one_more_any}
 use Rattle.wm_explore.proofs.Lists.{kept_pushed, last_pushed}
 use Rattle.wm_explore.proofs.Permitted.{permitted}
@@ -39,15 +45,47 @@ module _ (m : Module) (starts : List Start) (events : ℕ) (p q : Progress) (sam
     met = λ log why. subst (λ b. IsExcused events b log) (sym same_met) why;
   }
 
-  pub pushed_progress : IsProgress m starts p → IsState starts added → IsProgress m starts q
-  pushed_progress progress fine = record {
+  pub pushed_progress : IsProgress m starts p → IsState starts added → IsNoted m added → IsProgress m starts q
+  pushed_progress progress fine knows = record {
     states = subst (All (IsState starts)) (sym pushed) (all_pushed (IsState starts) p.work.items added progress.states fine);
+    noted = subst (All (IsNoted m)) (sym pushed) (all_pushed (IsNoted m) p.work.items added progress.noted knows);
     found = subst (λ fs. All (IsFound m starts) fs.items) (sym same_finished) progress.found;
     apart = subst (λ fs. AreApart fs.items) (sym same_finished) progress.apart;
   }
 
   pub pushed_left : (x : LoggedRun) → GoesOn x added → Covers events q x
   pushed_left x on = left (length p.work.items) added (ap (λ ss. slice_get ss (length p.work.items)) pushed ∙ last_pushed p.work.items added) on
+
+-- a state that is like a child is one
+alike_child : (k : ℕ) (e : Event) (s child added : State) → IsChild k e s child → IsAlike child added → IsChild k e s added
+alike_child k e s child added is alike = record {
+  log = alike.log ∙ is.log;
+  arrived = alike.arrived ∙ is.arrived;
+  marks = λ i n at. is.marks i n (ap (λ ms. slice_get ms i) (sym alike.marks) ∙ at);
+}
+
+alike_noted : (m : Module) (child added : State) → IsNoted m child → IsAlike child added → IsNoted m added
+alike_noted m child added noted alike = record {
+  nexts = λ k t next at_t at_next. noted.nexts k t next (ap (λ ts. slice_get ts k) (sym alike.log) ∙ at_t) (ap (λ ns. slice_get ns k) (sym alike.known) ∙ at_next);
+  past = λ initial is. knows_too initial child added alike.log alike.arrived alike.clocks (noted.past initial is);
+}
+
+-- what is noted of a child
+pub made_noted : (m : Module) (starts : List Start) (initial : List ℕ) (nexts : List Next) (k : ℕ) (e : Event) (s child : State) (t : ThreadLog) (at_t : slice_get s.log k ≡ Some t) → key_of e ≡ next_key k t
+    → IsState starts s → IsMade initial nexts k e s child → IsNoted m s → AreNexts m s.log nexts → IsInit m initial → IsNoted m child
+made_noted m starts initial nexts k e s child t at_t named fine made noted are is_init = record {
+  nexts = made.known m are;
+  past = λ other is_other.
+      let same : initial ≡ other = one_init m initial other is_init is_other in
+      subst (λ i. KnowsPast i child) same (knows_child s k t at_t e named starts fine child made.is_child initial (noted.past initial is_init) made.clock (made.past (noted.past initial is_init)) made.pushed);
+}
+
+-- what is noted of the state that waits
+pub marked_noted : (m : Module) (s marked : State) → IsNoted m s → marked.log ≡ s.log → marked.arrived ≡ s.arrived → marked.clocks ≡ s.clocks → KnowsNexts m marked → IsNoted m marked
+marked_noted m s marked noted same_log same_arrived same_clocks knows = record {
+  nexts = knows;
+  past = λ initial is. knows_too initial s marked same_log same_arrived same_clocks (noted.past initial is);
+}
 
 -- x reads r next in thread k, and the state has the events that wrote its bytes
 pub record ReadsNext (x : LoggedRun) (s : State) (on : GoesOn x s) (k : ℕ) (t : ThreadLog) (at : slice_get s.log k ≡ Some t) (op : OpFields) (r : ℕ) : Type 0 where
@@ -67,9 +105,9 @@ pub record ReadSoFar (m : Module) (starts : List Start) (events : ℕ) (s : Stat
 module _ (m : Module) (starts : List Start) (events : ℕ) (s : State) (fine : IsState starts s) (k : ℕ) (op : OpFields) (p : Progress) (values : List ℕ) where
   -- after the state in which the thread is marked
   pub read_none : IsProgress m starts p → (q : Progress) → q.finished ≡ p.finished → q.met ≡ p.met → (marked : State) → q.work.items ≡ p.work.items ++ marked ∷ []
-      → marked.log ≡ s.log → marked.arrived ≡ s.arrived → IsMarked k (Some (length s.arrived)) s.marks marked.marks → ReadSoFar m starts events s k op p q values 0
-  read_none progress q same_finished same_met marked pushed same_log same_arrived marks = record {
-    progress = pushed_progress m starts events p q same_finished same_met marked pushed progress (marked_is_state starts s marked k fine same_log same_arrived marks);
+      → marked.log ≡ s.log → marked.arrived ≡ s.arrived → IsMarked k (Some (length s.arrived)) s.marks marked.marks → IsNoted m marked → ReadSoFar m starts events s k op p q values 0
+  read_none progress q same_finished same_met marked pushed same_log same_arrived marks knows = record {
+    progress = pushed_progress m starts events p q same_finished same_met marked pushed progress (marked_is_state starts s marked k fine same_log same_arrived marks) knows;
     keeps = λ x is causal covers. covers_more events p q (pushed_more m starts events p q same_finished same_met marked pushed) x covers;
     waits = λ x is causal on t at lacks. pushed_left m starts events p q same_finished same_met marked pushed x (goes_on_marked x s on k t at starts fine marked same_log same_arrived marks lacks);
     reads = λ i r lt. absurd (omega (arith, lt));
@@ -95,10 +133,10 @@ module _ (m : Module) (starts : List Start) (events : ℕ) (s : State) (fine : I
           (λ w at_w reads. here x is (goes_on_child r t at_t child is_child x on u at (subst (ReadsNext x s on k u at op) (same_Some w r (sym at_w ∙ at_r)) reads)))
           (λ j w below at_w reads. covers_more events q next more x (so.reads j w below at_w x is causal on u at reads)) i v lt at_v
 
-    read_pushed : next.work.items ≡ q.work.items ++ child ∷ [] → ReadSoFar m starts events s k op p next values (n + 1)
-    read_pushed pushed = record {
+    read_pushed : IsNoted m child → next.work.items ≡ q.work.items ++ child ∷ [] → ReadSoFar m starts events s k op p next values (n + 1)
+    read_pushed knows pushed = record {
       progress = pushed_progress m starts events q next same_finished same_met child pushed so.progress
-          (is_state s k t at_t (event_made (record { thread = k; number = length t.events }) op r) refl starts fine child is_child);
+          (is_state s k t at_t (event_made (record { thread = k; number = length t.events }) op r) refl starts fine child is_child) knows;
       keeps = λ x is causal covers. covers_more events q next (pushed_more m starts events q next same_finished same_met child pushed) x (so.keeps x is causal covers);
       waits = λ x is causal on u at lacks. covers_more events q next (pushed_more m starts events q next same_finished same_met child pushed) x (so.waits x is causal on u at lacks);
       reads = reads_one_more (pushed_more m starts events q next same_finished same_met child pushed) (λ x is on. pushed_left m starts events q next same_finished same_met child pushed x on);
@@ -111,24 +149,53 @@ module _ (m : Module) (starts : List Start) (events : ℕ) (s : State) (fine : I
       met = λ log why. subst (λ b. IsExcused events b log) (sym same_met) why;
     }
 
-    read_pruned : next.work.items ≡ q.work.items → (initial : List ℕ) → IsInit m initial → ((w : Witness) → IsAllowedWith child.log initial w → LooksBack (execution (run_with child.log initial w)) child.arrived → ⊥) → ReadSoFar m starts events s k op p next values (n + 1)
-    read_pruned same_work initial is_init none = record {
+    -- no execution goes on from the child
+    read_dropped : next.work.items ≡ q.work.items → ((x : LoggedRun) → IsExecutionOf m starts x → GoesOn x child → ⊥) → ReadSoFar m starts events s k op p next values (n + 1)
+    read_dropped same_work none = record {
       progress = record {
         states = subst (All (IsState starts)) (sym same_work) so.progress.states;
+        noted = subst (All (IsNoted m)) (sym same_work) so.progress.noted;
         found = subst (λ fs. All (IsFound m starts) fs.items) (sym same_finished) so.progress.found;
         apart = subst (λ fs. AreApart fs.items) (sym same_finished) so.progress.apart;
       };
       keeps = λ x is causal covers. covers_more events q next (same_more same_work) x (so.keeps x is causal covers);
       waits = λ x is causal on u at lacks. covers_more events q next (same_more same_work) x (so.waits x is causal on u at lacks);
-      reads = reads_one_more (same_more same_work) (λ x is on.
-          let w = permitted m starts x child is (is_state s k t at_t (event_made (record { thread = k; number = length t.events }) op r) refl starts fine child is_child) on in
-          let same : x.initial ≡ initial = one_init m x.initial initial is.initial is_init in
-          absurd (none w.0 (subst (λ i. IsAllowedWith child.log i w.0) same w.1) (subst (λ i. LooksBack (execution (run_with child.log i w.0)) child.arrived) same w.2)));
+      reads = reads_one_more (same_more same_work) (λ x is on. absurd (none x is on));
     }
 
-    pub read_more : (initial : List ℕ) → IsInit m initial → AddsPermitted initial child q.work.items next.work.items → ReadSoFar m starts events s k op p next values (n + 1)
-    read_more initial is_init (inl pushed) = read_pushed pushed
-    read_more initial is_init (inr none) = read_pruned none.0 initial is_init none.1
+    read_pruned : next.work.items ≡ q.work.items → (initial : List ℕ) → IsInit m initial → ((w : Witness) → IsAllowedWith child.log initial w → LooksBack (execution (run_with child.log initial w)) child.arrived → ⊥) → ReadSoFar m starts events s k op p next values (n + 1)
+    read_pruned same_work initial is_init none = read_dropped same_work (λ x is on.
+        let w = permitted m starts x child is (is_state s k t at_t (event_made (record { thread = k; number = length t.events }) op r) refl starts fine child is_child) on in
+        let same : x.initial ≡ initial = one_init m x.initial initial is.initial is_init in
+        none w.0 (subst (λ i. IsAllowedWith child.log i w.0) same w.1) (subst (λ i. LooksBack (execution (run_with child.log i w.0)) child.arrived) same w.2))
+
+  -- whatever the hint of the state that is added
+  read_more : (q next : Progress) (n r : ℕ) (at_r : slice_get values n ≡ Some r) → ReadSoFar m starts events s k op p q values n → next.finished ≡ q.finished → next.met ≡ q.met
+      → (t : ThreadLog) (at_t : slice_get s.log k ≡ Some t) (child : State) → IsChild k (event_made (record { thread = k; number = length t.events }) op r) s child
+      → IsNoted m child → (initial : List ℕ) → IsInit m initial → AddsPermitted initial child q.work.items next.work.items → ReadSoFar m starts events s k op p next values (n + 1)
+  read_more q next n r at_r so same_finished same_met t at_t child is_child noted initial is_init (inl (added, alike, pushed)) =
+      read_pushed q next n r at_r so same_finished same_met t at_t added (alike_child k (event_made (record { thread = k; number = length t.events }) op r) s child added is_child alike) (alike_noted m child added noted alike) pushed
+  read_more q next n r at_r so same_finished same_met t at_t child is_child noted initial is_init (inr none) =
+      read_pruned q next n r at_r so same_finished same_met t at_t child is_child none.0 initial is_init none.1
+
+  -- whether it is added or not
+  pub read_any : (q next : Progress) (n r : ℕ) (at_r : slice_get values n ≡ Some r) → ReadSoFar m starts events s k op p q values n → next.finished ≡ q.finished → next.met ≡ q.met
+      → (t : ThreadLog) (at_t : slice_get s.log k ≡ Some t) → IsNoted m s → (nexts : List Next) → AreNexts m s.log nexts → (initial : List ℕ) → IsInit m initial
+      → AddsRead initial nexts k (event_made (record { thread = k; number = length t.events }) op r) s q.work.items next.work.items → ReadSoFar m starts events s k op p next values (n + 1)
+  read_any q next n r at_r so same_finished same_met t at_t noted nexts are initial is_init (inl (child, made, added)) =
+      read_more q next n r at_r so same_finished same_met t at_t child made.is_child (made_noted m starts initial nexts k (event_made (record { thread = k; number = length t.events }) op r) s child t at_t refl fine made noted are is_init) initial is_init added
+  read_any q next n r at_r so same_finished same_met t at_t noted nexts are initial is_init (inr (same_work, none)) =
+      read_dropped q next n r at_r so same_finished same_met t at_t child is_child same_work (λ x is on.
+      forbidden s k t at_t e refl starts fine child is_child initial (none (noted.past initial is_init)) m x (is_state s k t at_t e refl starts fine child is_child) is (one_init m x.initial initial is.initial is_init) on)
+    where
+      e : Event
+      e = event_made (record { thread = k; number = length t.events }) op r
+
+      child : State
+      child = record { log = extended k e s.log; arrived = s.arrived ++ key_of e ∷ []; marks = []; clocks = []; known = []; hint = None }
+
+      is_child : IsChild k e s child
+      is_child = record { log = refl; arrived = refl; marks = λ i mark at. absurd (none-some mark at) }
 
   -- after the last value
   pub reads_all : (q : Progress) (n : ℕ) → length values ≤ n → ReadSoFar m starts events s k op p q values n → kind_finds op.kind ≡ true → MakesNext m events s.log k op

@@ -3,6 +3,9 @@ pub mod States
 pub mod Values
 pub mod Bounds
 pub mod Turns
+pub mod Clocks
+pub mod Past
+pub mod Known
 pub mod Judging
 pub mod Asking
 pub mod Idle

@@ -15,7 +15,11 @@ use Rattle.wm_explore.specs.Executions.{IsCausal, IsExecutionOf, IsOutcome, IsOu
 use Rattle.wm_event.specs.declared.witness.Witness.{Witness}
 use Rattle.wm_explore.specs.Idle.{StandsFor}
 use Rattle.wm_explore.specs.Judging.{IsAllowedWith, LooksBack, run_with}
-use Rattle.wm_explore.specs.States.{GoesOn, IsState}
+use Rattle.wm_explore.specs.Known.{IsMade, IsNoted}
+use Rattle.wm_explore.specs.Past.{FindsPast, KnowsPast}
+use Rattle.wm_event.specs.declared.event.Event.{Event}
+use Rattle.wm_replay.specs.declared.continuing.Next.{Next}
+use Rattle.wm_explore.specs.States.{GoesOn, IsAlike, IsState}
 use Rattle.wm_valid.specs.Valid.{IsInit}
 
 -- ---- what was found
@@ -46,6 +50,7 @@ CoversFor m starts events p x = (y : LoggedRun) × StandsFor m starts y x × Cov
 
 pub record IsProgress (m : Module) (starts : List Start) (p : Progress) : Type 0 where
   pub states : All (IsState starts) p.work.items
+  pub noted : All (IsNoted m) p.work.items
   pub found : All (IsFound m starts) p.finished.items
   pub apart : AreApart p.finished.items
 
@@ -70,13 +75,20 @@ IsStep m events s p q = (starts : List Start) → IsState starts s → IsProgres
 -- the child was added, or no witness that looks back makes its log valid
 abbrev pub AddsPermitted : List ℕ → State → List State → List State → Type 0
 AddsPermitted initial child old new =
-    (new ≡ old ++ child ∷ []) ⊎ ((new ≡ old) × ((witness : Witness) → IsAllowedWith child.log initial witness → LooksBack (execution (run_with child.log initial witness)) child.arrived → ⊥))
+    ((added : State) × IsAlike child added × (new ≡ old ++ added ∷ [])) ⊎ ((new ≡ old) × ((witness : Witness) → IsAllowedWith child.log initial witness → LooksBack (execution (run_with child.log initial witness)) child.arrived → ⊥))
+
+-- the state with the event e of thread k was added, unless it isn't permitted; or no execution that has the state has e next
+abbrev pub AddsRead : List ℕ → List Next → ℕ → Event → State → List State → List State → Type 0
+AddsRead initial nexts k e s old new =
+    ((child : State) × IsMade initial nexts k e s child × AddsPermitted initial child old new) ⊎ ((new ≡ old) × (KnowsPast initial s → FindsPast initial s e None))
 
 -- the threads are started so, and nothing has happened
 pub record IsFirstState (starts : List Start) (s : State) : Type 0 where
   pub log : s.log ≡ map (λ start. record { start = start; end = Cut; steps = 0; events = [] }) starts
   pub arrived : s.arrived ≡ []
   pub marks : (k : ℕ) (mark : Option ℕ) → slice_get s.marks k ≡ Some mark → mark ≡ None
+  pub clocks : s.clocks ≡ []
+  pub known : s.known ≡ []
 
 -- ---- an exploration
 

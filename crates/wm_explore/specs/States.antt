@@ -37,6 +37,14 @@ pub record IsChild (k : ℕ) (e : Event) (old new : State) : Type 0 where
   pub arrived : new.arrived ≡ old.arrived ++ key_of e ∷ []
   pub marks : IsMarked k None old.marks new.marks
 
+-- two states that differ at most in what nothing rests on
+pub record IsAlike (s t : State) : Type 0 where
+  pub log : t.log ≡ s.log
+  pub arrived : t.arrived ≡ s.arrived
+  pub marks : t.marks ≡ s.marks
+  pub clocks : t.clocks ≡ s.clocks
+  pub known : t.known ≡ s.known
+
 -- ---- what goes on from a state
 
 -- the threads of log are started as those of whole, and have their first events

@@ -9,7 +9,7 @@ use crate::state::State;
 use std::alloc::{AllocError, Global};
 use wm_event::{Event, MAX_STEPS, Op, ThreadLog};
 use wm_machine::{Need, Thread};
-use wm_replay::follow;
+use wm_replay::{Next, follow};
 use wm_valid::ValidModule;
 
 /// The thread after the events of its log, if it makes them within [`MAX_STEPS`] steps.
@@ -93,11 +93,30 @@ fn idle_from(
     Ok(None)
 }
 
-/// Whether the last events of the thread that made the event that arrived last are an idle turn.
+/// Whether what a thread does next could make one of its last events again, which only read.
+fn could_be_idle(stated: &ThreadLog, next: Option<&Next>) -> bool {
+    let Some(Next::Access(op)) = next else {
+        return false;
+    };
+    let events = stated.events.as_slice();
+    for later in 0..events.len() {
+        let event = &events[events.len() - 1 - later];
+        match (event.writes(), is_made_by(event, *op)) {
+            (true, _) => return false,
+            (false, true) => return true,
+            (false, false) => {}
+        }
+    }
+    false
+}
+
+/// Whether the last events of the thread that made the event that arrived last are an idle turn, where the threads do this
+/// next.
 pub(crate) fn ends_idly(
     alloc: Global,
     module: &ValidModule,
     state: &State,
+    nexts: &[Next],
 ) -> Result<bool, AllocError>
     ensures { IfOk result (λ idle. idle ≡ true → HasIdleTurn «module».now state.now.log) }
 {
@@ -107,6 +126,11 @@ pub(crate) fn ends_idly(
     let number = last.thread as usize;
     match state.log.threads().get(number) {
         None => Ok(false),
-        Some(stated) => Ok(idle_from(alloc, module, stated, number)?.is_some()),
+        Some(stated) => {
+            if !could_be_idle(stated, nexts.get(number)) {
+                return Ok(false);
+            }
+            Ok(idle_from(alloc, module, stated, number)?.is_some())
+        }
     }
 }

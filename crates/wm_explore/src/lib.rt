@@ -3,11 +3,14 @@
 
 mod asking;
 mod bound;
+mod clock;
 mod copies;
 mod exploration;
+mod hint;
 mod idle;
 mod judge;
 mod law;
+mod past;
 mod search;
 mod state;
 mod turn;

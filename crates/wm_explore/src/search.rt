@@ -6,22 +6,25 @@ ghost use Rattle.wm_event.specs.Op.{event_made, kind_finds};
 ghost use Rattle.wm_event.specs.declared.log.ThreadLog.{ThreadLog};
 ghost use Rattle.wm_explore.specs.Bounds.{Excuses, IsExcused};
 ghost use Rattle.wm_explore.specs.Executions.{IsFinished, ends_of};
-ghost use Rattle.wm_explore.specs.Search.{AddsPermitted, Explores, IsFirstState, IsStep, Lists};
+ghost use Rattle.wm_explore.specs.Known.{IsNoted};
+ghost use Rattle.wm_explore.specs.Search.{AddsPermitted, AddsRead, Explores, IsFirstState, IsStep, Lists};
 ghost use Rattle.wm_explore.specs.States.{count_in, extended};
-ghost use Rattle.wm_explore.specs.Turns.{EachEndsIn, MakesNext};
+ghost use Rattle.wm_explore.specs.Turns.{AreNexts, EachEndsIn, MakesNext};
 
 use crate::bound::{Bound, Limits};
 use crate::copies::copied_start;
 use crate::exploration::{Exploration, Finished};
+use crate::hint::Hint;
 use crate::idle::ends_idly;
 use crate::judge::{Permission, judged};
+use crate::past::{past_of, past_of_write};
 use crate::state::State;
-use crate::turn::{Turn, next_turn};
+use crate::turn::{Turn, nexts, turn_of};
 use crate::values::values;
 use std::alloc::{AllocError, Global};
 use wm_event::{End, Event, EventKey, Initial, Log, Op, Start, ThreadLog};
 use wm_list::List;
-use wm_replay::{Completion, complete};
+use wm_replay::{Completion, Next, complete};
 use wm_valid::ValidModule;
 
 /// How far an exploration has come.
@@ -159,7 +162,8 @@ fn next_event(state: &State, thread: usize, op: Op, read: u64) -> Event
     op.event(key, read)
 }
 
-/// Adds the state in which a thread has one more event, unless no witness makes it one of a valid execution.
+/// Adds the state in which a thread has one more event, unless no witness makes it one of a valid execution. That is asked
+/// only of a state without a hint.
 fn add_permitted(
     alloc: Global,
     initial: &Initial,
@@ -171,11 +175,44 @@ fn add_permitted(
     ensures met { OnOk result (progress.new.met ≡ progress.old.met) }
     ensures added { OnOk result (AddsPermitted initial.now child progress.old.work.items progress.new.work.items) }
 {
+    if child.hint.is_some() {
+        progress.work.push(child)?;
+        return Ok(());
+    }
     match judged(alloc, &child.log, child.arrived.as_slice(), initial, nodes)? {
         Permission::Never => {}
-        Permission::With(_) | Permission::Unknown => progress.work.push(child)?,
+        Permission::With(witness) => {
+            let hint = Hint::of(alloc, &child.log, &witness)?;
+            progress.work.push(child.hinted(hint))?;
+        }
+        Permission::Unknown => progress.work.push(child)?,
     }
     Ok(())
+}
+
+/// Adds the state in which a thread has one more event, which reads, unless no valid execution has it there.
+fn add_read(
+    alloc: Global,
+    initial: &Initial,
+    nodes: u64,
+    state: &State,
+    nexts: &[Next],
+    progress: &mut Progress,
+    thread: usize,
+    event: Event,
+) -> Result<(), AllocError>
+    requires { IsLog (extended thread event state.now.log) }
+    ensures finished { OnOk result (progress.new.finished ≡ progress.old.finished) }
+    ensures met { OnOk result (progress.new.met ≡ progress.old.met) }
+    ensures added { OnOk result (AddsRead initial.now nexts.now thread event state.now progress.old.work.items progress.new.work.items) }
+{
+    match past_of(state, initial, &event) {
+        None => Ok(()),
+        Some(clock) => {
+            let child = state.with(alloc, initial, nexts, thread, event, clock)?;
+            add_permitted(alloc, initial, nodes, child, progress)
+        }
+    }
 }
 
 /// Adds the states in which a thread makes the access, which reads, and the one in which it waits.
@@ -184,45 +221,63 @@ fn add_reads(
     module: &ValidModule,
     limits: Limits,
     state: &State,
+    nexts: &[Next],
     progress: &mut Progress,
     thread: usize,
     op: Op,
 ) -> Result<(), AllocError>
     requires few { length state.now.log ≤ max_threads }
+    requires noted { IsNoted «module».now state.now }
+    requires nexts { AreNexts «module».now state.now.log nexts.now }
     requires next { MakesNext «module».now limits.events state.now.log thread op }
     requires reads { kind_finds op.kind ≡ true }
     ensures { OnOk result (IsStep «module».now limits.events state.now progress.old progress.new) }
 {
-    progress.work.push(state.marked(alloc, thread)?)?;
+    progress.work.push(state.marked(alloc, nexts, thread)?)?;
     let initial = module.initial();
     let values = values(alloc, state, initial, op.fields(), state.mark(thread))?;
     for value in values.as_slice() {
         let event = next_event(state, thread, op, *value);
-        let child = state.with(alloc, thread, event)?;
-        add_permitted(alloc, initial, limits.nodes, child, progress)?;
+        add_read(
+            alloc,
+            initial,
+            limits.nodes,
+            state,
+            nexts,
+            progress,
+            thread,
+            event,
+        )?;
     }
     Ok(())
 }
 
-/// Extends a state.
+/// Extends a state whose threads do this next.
 fn extend(
     alloc: Global,
     module: &ValidModule,
     limits: Limits,
     state: &State,
+    nexts: &[Next],
     progress: &mut Progress,
 ) -> Result<(), AllocError>
     requires few { length state.now.log ≤ max_threads }
+    requires noted { IsNoted «module».now state.now }
+    requires nexts { AreNexts «module».now state.now.log nexts.now }
     ensures { OnOk result (IsStep «module».now limits.events state.now progress.old progress.new) }
 {
-    match next_turn(alloc, module, state, limits.events)? {
+    match turn_of(state, nexts, limits.events) {
         Turn::Nothing => finish(alloc, module, limits.nodes, state, progress),
         Turn::Write(thread, op) => {
             let event = next_event(state, thread, op, 0);
-            progress.work.push(state.with(alloc, thread, event)?)?;
+            let clock = past_of_write(state, event.key());
+            let child = state.with(alloc, module.initial(), nexts, thread, event, clock)?;
+            progress.work.push(child)?;
             Ok(())
         }
-        Turn::Read(thread, op) => add_reads(alloc, module, limits, state, progress, thread, op),
+        Turn::Read(thread, op) => {
+            add_reads(alloc, module, limits, state, nexts, progress, thread, op)
+        }
         Turn::Bounded(bound) => {
             progress.meet(bound);
             Ok(())
@@ -251,6 +306,9 @@ fn first_state(alloc: Global, starts: &[Start]) -> Result<State, AllocError>
         log: Log::new(threads),
         arrived: List::new(alloc),
         marks,
+        clocks: List::new(alloc),
+        known: List::new(alloc),
+        hint: Some(Hint::new(alloc)),
     })
 }
 
@@ -284,11 +342,13 @@ pub fn explore(
                 });
             }
             Some(state) => {
+                let nexts = nexts(alloc, module, &state)?;
+                let nexts = nexts.as_slice();
                 // An execution that goes on from here has a shorter one with its ends.
-                if ends_idly(alloc, module, &state)? {
+                if ends_idly(alloc, module, &state, nexts)? {
                     continue;
                 }
-                extend(alloc, module, limits, &state, &mut progress)?;
+                extend(alloc, module, limits, &state, nexts, &mut progress)?;
             }
         }
     }

@@ -1,12 +1,19 @@
 //! How far an execution has come.
-ghost use Rattle.std.specs.Prelude.{◌≡◌, ℕ, Some, IfOk, length, slice_get};
+ghost use Rattle.std.specs.Prelude.{◌≡◌, ◌++◌, ◌∷◌, [], ℕ, Some, IfOk, length, slice_get};
+ghost use Rattle.wm_ast.specs.declared.module.Module.{Module};
 ghost use Rattle.wm_event.specs.Log.{IsLog};
-ghost use Rattle.wm_explore.specs.States.{IsChild, IsMarked, extended};
+ghost use Rattle.wm_explore.specs.Known.{KnowsBut, KnowsNexts, KnowsOnly};
+ghost use Rattle.wm_explore.specs.States.{IsAlike, IsChild, IsMarked, extended};
+ghost use Rattle.wm_explore.specs.Turns.{AreNexts};
+ghost use Rattle.wm_replay.specs.declared.continuing.Next.{Next};
 
+use crate::clock::Clock;
 use crate::copies::{copied_log, with_event};
+use crate::hint::Hint;
 use std::alloc::{AllocError, Global};
-use wm_event::{Event, EventKey, Log};
+use wm_event::{Event, EventKey, Initial, Log};
 use wm_list::List;
+use wm_replay::Next;
 
 /// The first events of each thread of an execution, and what is known of those that follow.
 #[derive(Drop)]
@@ -18,6 +25,12 @@ pub(crate) struct State {
     /// For each thread: if it is marked with a number, some byte of its next event is from an event that isn't among that
     /// many that arrived first.
     pub marks: List<Option<usize>>,
+    /// For each event, in the order in which they were added, what surely happens before it.
+    pub clocks: List<Clock>,
+    /// For each thread what it does next, where that is known.
+    pub known: List<Option<Next>>,
+    /// An execution of the events that the memory rules are likely to permit. Nothing rests on it.
+    pub hint: Option<Hint>,
 }
 
 /// Marks with another one at a thread.
@@ -36,33 +49,119 @@ fn with_mark(
     Ok(copy)
 }
 
+/// What the threads do next, which isn't known of this one.
+fn known_but(alloc: Global, nexts: &[Next], moved: usize) -> Result<List<Option<Next>>, AllocError>
+    ensures { IfOk result (KnowsBut moved nexts.now) }
+{
+    let mut known = List::new(alloc);
+    for (number, next) in nexts.iter().enumerate() {
+        known.push(if number == moved { None } else { Some(*next) })?;
+    }
+    Ok(known)
+}
+
+/// What all threads do next.
+fn all_known(alloc: Global, nexts: &[Next]) -> Result<List<Option<Next>>, AllocError>
+    ensures { IfOk result (KnowsOnly nexts.now) }
+{
+    let mut known = List::new(alloc);
+    for next in nexts {
+        known.push(Some(*next))?;
+    }
+    Ok(known)
+}
+
+/// A copy of a hint.
+fn copied_hint(alloc: Global, hint: &Option<Hint>) -> Result<Option<Hint>, AllocError> {
+    match hint {
+        None => Ok(None),
+        Some(hint) => Ok(Some(hint.copy(alloc)?)),
+    }
+}
+
+/// A hint with one more event, if there is one.
+fn hint_with(
+    alloc: Global,
+    initial: &Initial,
+    hint: &Option<Hint>,
+    event: Event,
+) -> Result<Option<Hint>, AllocError> {
+    match hint {
+        None => Ok(None),
+        Some(hint) => hint.with(alloc, initial, event),
+    }
+}
+
 impl State {
-    /// The state in which this thread has one more event, of which nothing is known.
+    /// The state in which this thread has one more event, before which so much surely happens, where the threads did this
+    /// next.
     pub(crate) fn with(
         &self,
         alloc: Global,
+        initial: &Initial,
+        nexts: &[Next],
         thread: usize,
         event: Event,
+        clock: Clock,
     ) -> Result<State, AllocError>
         requires { IsLog (extended thread event self.now.log) }
-        ensures { IfOk result (IsChild thread event self.now) }
+        ensures child { IfOk result (IsChild thread event self.now) }
+        ensures clocks { IfOk result (λ s. s.clocks ≡ self.now.clocks ++ clock ∷ []) }
+        ensures known { IfOk result (λ s. (m : Module) → AreNexts m self.now.log nexts.now → KnowsNexts m s) }
     {
         let log = with_event(alloc, &self.log, thread, event)?;
         let mut arrived = List::from_vec(self.arrived.as_slice().to_vec(alloc)?);
         arrived.push(event.key())?;
         let marks = with_mark(alloc, self.marks.as_slice(), thread, None)?;
+        let mut clocks = List::from_vec(self.clocks.as_slice().to_vec(alloc)?);
+        clocks.push(clock)?;
+        let known = known_but(alloc, nexts, thread)?;
+        let hint = hint_with(alloc, initial, &self.hint, event)?;
         Ok(State {
             log,
             arrived,
             marks,
+            clocks,
+            known,
+            hint,
         })
     }
 
-    /// The same state, where some byte of the thread's next event is from an event that hasn't arrived.
-    pub(crate) fn marked(&self, alloc: Global, thread: usize) -> Result<State, AllocError>
+    /// The same state with another hint.
+    pub(crate) fn hinted(self, hint: Hint) -> State
+        ensures { IsAlike self result }
+    {
+        let State {
+            log,
+            arrived,
+            marks,
+            clocks,
+            known,
+            hint: _hint,
+        } = self;
+        State {
+            log,
+            arrived,
+            marks,
+            clocks,
+            known,
+            hint: Some(hint),
+        }
+    }
+
+    /// The same state, where some byte of the thread's next event is from an event that hasn't arrived, and the threads do
+    /// this next.
+    pub(crate) fn marked(
+        &self,
+        alloc: Global,
+        nexts: &[Next],
+        thread: usize,
+    ) -> Result<State, AllocError>
         ensures log { IfOk result (λ s. s.log ≡ self.now.log) }
         ensures arrived { IfOk result (λ s. s.arrived ≡ self.now.arrived) }
+        ensures clocks { IfOk result (λ s. s.clocks ≡ self.now.clocks) }
         ensures marks { IfOk result (λ s. IsMarked thread (Some (length self.now.arrived)) self.now.marks s.marks) }
+        ensures known { IfOk result (λ s. (m : Module) → AreNexts m self.now.log nexts.now → KnowsNexts m s) }
     {
         let log = copied_log(alloc, &self.log)?;
         let arrived = List::from_vec(self.arrived.as_slice().to_vec(alloc)?);
@@ -72,10 +171,16 @@ impl State {
             thread,
             Some(self.arrived.len()),
         )?;
+        let clocks = List::from_vec(self.clocks.as_slice().to_vec(alloc)?);
+        let known = all_known(alloc, nexts)?;
+        let hint = copied_hint(alloc, &self.hint)?;
         Ok(State {
             log,
             arrived,
             marks,
+            clocks,
+            known,
+            hint,
         })
     }
 
@@ -84,5 +189,12 @@ impl State {
         ensures { (n : ℕ) → result ≡ Some n → slice_get self.now.marks thread ≡ Some (Some n) }
     {
         *self.marks.get(thread)?
+    }
+
+    /// What a thread does next, if that is known.
+    pub(crate) fn known(&self, thread: usize) -> Option<Next>
+        ensures { (next : Next) → result ≡ Some next → slice_get self.now.known thread ≡ Some (Some next) }
+    {
+        *self.known.get(thread)?
     }
 }

@@ -3,6 +3,7 @@ ghost use Rattle.std.specs.Prelude.{◌≡◌, IfOk, IfSome, None, Some, true, f
 ghost use Rattle.wm_ast.specs.declared.module.Module.{Module};
 ghost use Rattle.wm_event.specs.Log.{event_in};
 ghost use Rattle.wm_event.specs.Op.{kind_finds};
+ghost use Rattle.wm_explore.specs.Known.{KnowsNexts};
 ghost use Rattle.wm_explore.specs.Turns.{AreNexts, EachEnds, FindsBound, FindsRead, FindsWrite, HasNoNew, IsTurn, WaitsFor, WritesNone, bound_at};
 
 use crate::bound::Bound;
@@ -28,12 +29,22 @@ pub(crate) enum Turn {
     Stuck,
 }
 
-/// What each thread of a state does next; a thread that doesn't start ends.
-fn nexts(alloc: Global, module: &ValidModule, state: &State) -> Result<List<Next>, AllocError>
+/// What each thread of a state does next; a thread that doesn't start ends. It is found by running those of which it isn't
+/// known.
+pub(crate) fn nexts(
+    alloc: Global,
+    module: &ValidModule,
+    state: &State,
+) -> Result<List<Next>, AllocError>
+    requires { KnowsNexts «module».now state.now }
     ensures { IfOk result (AreNexts «module».now state.now.log) }
 {
     let mut nexts = List::new(alloc);
     for (number, stated) in state.log.threads().iter().enumerate() {
+        if let Some(next) = state.known(number) {
+            nexts.push(next)?;
+            continue;
+        }
         match next_after(alloc, module, stated, number) {
             Err(refused) => return Err(refused),
             Ok(Err(_)) => nexts.push(Next::Ends)?,
@@ -195,7 +206,7 @@ fn each_ends(nexts: &[Next]) -> bool
 }
 
 /// What is added next to a state whose threads do this next, where a thread has at most this number of events.
-fn turn_of(state: &State, nexts: &[Next], events: u32) -> Turn
+pub(crate) fn turn_of(state: &State, nexts: &[Next], events: u32) -> Turn
     ensures { (m : Module) → AreNexts m state.now.log nexts.now → IsTurn m events state.now result }
 {
     match met_bound(state, nexts, events) {
@@ -214,17 +225,4 @@ fn turn_of(state: &State, nexts: &[Next], events: u32) -> Turn
         return Turn::Nothing;
     }
     Turn::Stuck
-}
-
-/// What is added next to a state in which a thread has at most this number of events.
-pub(crate) fn next_turn(
-    alloc: Global,
-    module: &ValidModule,
-    state: &State,
-    events: u32,
-) -> Result<Turn, AllocError>
-    ensures { IfOk result (IsTurn «module».now events state.now) }
-{
-    let nexts = nexts(alloc, module, state)?;
-    Ok(turn_of(state, nexts.as_slice(), events))
 }

@@ -59,7 +59,7 @@ fn initial_offers(
 }
 
 /// The byte that an event left at an address, if it writes there.
-fn byte_left(state: &State, key: EventKey, address: u64) -> Option<u8>
+pub(crate) fn byte_left(state: &State, key: EventKey, address: u64) -> Option<u8>
     ensures { result ≡ spec_byte_left state.now.log key address }
 {
     state.log.event(key)?.byte_written(address)

@@ -2,10 +2,10 @@ use Rattle.std.proofs.Common.{◌≡◌, get_or, length, Some, refl, sym, ap, su
 use Rattle.std.specs.Prelude.{slice_get}
 use Rattle.std.proofs.lemmas.Option.{slice_get-get_or}
 use Rattle.wm_event.specs.Op.{event_made}
-use Rattle.wm_explore.specs.States.{IsChild}
+use Rattle.wm_explore.specs.Search.{AddsRead}
 use Rattle.wm_explore.specs.Values.{ReadsAll}
 use Rattle.wm_explore.proofs.Beginnings.{count_at}
-use Rattle.wm_explore.proofs.ReadsOf.{read_more, read_none, reads_all}
+use Rattle.wm_explore.proofs.ReadsOf.{marked_noted, read_any, read_none, reads_all}
 use Rattle.wm_explore.proofs.search.add_reads.Goals as goal
 
 pub loop-value-init : goal.loop-value-init
@@ -13,7 +13,9 @@ loop-value-init c = record {
   so_far = λ starts fine progress.
       read_none c.args.module.now starts c.args.limits.events c.args.state.now fine c.args.thread c.args.op c.args.progress.now c.as_slice-value-items.result.now progress
       (record { work = c.push.new.self; finished = c.args.progress.now.finished; met = c.args.progress.now.met }) refl refl c.in_ok-marked.field-0 c.in_ok-push.ensures.items
-      c.in_ok-marked.ensures.log c.in_ok-marked.ensures.arrived c.in_ok-marked.ensures.marks;
+      c.in_ok-marked.ensures.log c.in_ok-marked.ensures.arrived c.in_ok-marked.ensures.marks
+      (marked_noted c.args.module.now c.args.state.now c.in_ok-marked.field-0 c.requires.noted c.in_ok-marked.ensures.log c.in_ok-marked.ensures.arrived c.in_ok-marked.ensures.clocks
+      (c.in_ok-marked.ensures.known c.args.module.now c.requires.nexts));
 }
 
 pub loop-value-preserved : goal.loop-value-preserved
@@ -28,10 +30,11 @@ loop-value-preserved c = record {
       let at_r : slice_get c.as_slice-value-items.result.now n ≡ Some r = slice_get-get_or c.as_slice-value-items.result.now n 0 c.loop-value-test.true in
       let event : c.next_event-event.result ≡ event_made (record { thread = k; number = length t.events }) c.args.op r =
       c.next_event-event.ensures.event ∙ ap (λ i. event_made (record { thread = k; number = i }) c.args.op r) (count_at s.log k t at_t) in
-      let child : IsChild k (event_made (record { thread = k; number = length t.events }) c.args.op r) s c.in_ok-child.child = subst (λ e. IsChild k e s c.in_ok-child.child) event c.in_ok-child.ensures in
-      read_more c.args.module.now starts c.args.limits.events s fine k c.args.op c.args.progress.now c.as_slice-value-items.result.now c.loop-value.progress c.add_permitted.new.progress n r at_r
-      (c.loop-value.invariant.so_far starts fine progress) c.in_ok-add_permitted.ensures.finished c.in_ok-add_permitted.ensures.met t at_t c.in_ok-child.child child
-      c.initial-initial.result.now c.initial-initial.ensures c.in_ok-add_permitted.ensures.added;
+      let initial = c.initial-initial.result.now in
+      let added = subst (λ e. AddsRead initial c.args.nexts.now k e s c.loop-value.progress.work.items c.add_read.new.progress.work.items) event c.in_ok-add_read.ensures.added in
+      read_any c.args.module.now starts c.args.limits.events s fine k c.args.op c.args.progress.now c.as_slice-value-items.result.now c.loop-value.progress c.add_read.new.progress n r at_r
+      (c.loop-value.invariant.so_far starts fine progress) c.in_ok-add_read.ensures.finished c.in_ok-add_read.ensures.met t at_t c.requires.noted c.args.nexts.now c.requires.nexts
+      initial c.initial-initial.ensures added;
 }
 
 pub returns : goal.returns

@@ -1,6 +1,7 @@
 use Rattle.std.proofs.Common.{◌≡◌, ◌<◌, ◌∷◌, ◌++◌, [], None, length, rules, vec_len, inr, refl, sym, ap, subst, ◌∙◌, arith}
 use Rattle.wm_explore.specs.declared.search.Progress.{Progress}
-use Rattle.wm_explore.proofs.Exploring.{begins, begins_covering, covers_without, empty_if, explores, none_left_for, rest_progress, stands_itself, starts_length, still_covers_for, taken_is_state}
+use Rattle.wm_explore.specs.Turns.{AreNexts}
+use Rattle.wm_explore.proofs.Exploring.{begins, begins_covering, covers_without, empty_if, explores, none_left_for, rest_progress, stands_itself, starts_length, still_covers_for, taken_is_state, taken_noted}
 use Rattle.wm_explore.proofs.search.explore.Goals as goal
 
 pub loop-graphs-init : goal.loop-graphs-init
@@ -17,15 +18,23 @@ returns-in-None c =
     explores c.args.module.now c.args.starts.now c.args.limits.events c.loop-graphs.progress c.loop-graphs.invariant.progress _ c.from_vec.ensures
     (λ x is causal. none_left_for c.args.module.now c.args.starts.now c.args.limits.events c.loop-graphs.progress (empty_if c.loop-graphs.progress.work.items (λ some. cc (c.in-None.ensures.variant.1 (subst (λ n. 0 < n) long some)))) x (c.loop-graphs.invariant.covers x is causal))
 
+pub nexts-requires : goal.nexts-requires
+nexts-requires c =
+    (taken_noted c.args.module.now c.args.starts.now c.args.limits.events c.loop-graphs.progress c.loop-graphs.invariant.progress c.in-Some.state
+    (record { work = c.pop.new.self; finished = c.loop-graphs.progress.finished; met = c.loop-graphs.progress.met }) c.in-Some.ensures.items refl refl).nexts
+
 pub extend-requires : goal.extend-requires
-extend-requires c = record {
-  few =
-      let s = c.in-Some.state in
-      let fine = taken_is_state c.args.module.now c.args.starts.now c.args.limits.events c.loop-graphs.progress c.loop-graphs.invariant.progress s (record { work = c.pop.new.self; finished = c.loop-graphs.progress.finished; met = c.loop-graphs.progress.met }) c.in-Some.ensures.items refl refl in
-      let count : length s.log ≡ length c.args.starts.now = sym (starts_length s.log) ∙ ap length fine.started in
-      let few = c.requires in
-      omega (arith, count, few);
-}
+extend-requires c =
+    let s = c.in-Some.state in
+    let rest : Progress = record { work = c.pop.new.self; finished = c.loop-graphs.progress.finished; met = c.loop-graphs.progress.met } in
+    let fine = taken_is_state c.args.module.now c.args.starts.now c.args.limits.events c.loop-graphs.progress c.loop-graphs.invariant.progress s rest c.in-Some.ensures.items refl refl in record {
+      few =
+          let count : length s.log ≡ length c.args.starts.now = sym (starts_length s.log) ∙ ap length fine.started in
+          let few = c.requires in
+          omega (arith, count, few);
+      noted = taken_noted c.args.module.now c.args.starts.now c.args.limits.events c.loop-graphs.progress c.loop-graphs.invariant.progress s rest c.in-Some.ensures.items refl refl;
+      nexts = subst (AreNexts c.args.module.now s.log) (sym c.as_slice-nexts.ensures) c.in_ok-nexts-in-Some.ensures;
+    }
 
 pub loop-graphs-preserved : goal.loop-graphs-preserved
 loop-graphs-preserved c =

@@ -1,0 +1,165 @@
+-- What is found of the next event of a state holds in each execution that has it.
+use Rattle.std.proofs.Common.{◌≡◌, ℕ, ◌+◌, ◌<◌, ◌≤◌, true, List, [], ◌∷◌, ◌++◌, inl, inr, Option, None, Some, IsSome, refl, sym, ap, subst, ◌∙◌, arith}
+use Rattle.std.specs.Prelude.{◌≢◌, ◌⊎◌, option_and_then, slice_get, if◌then◌else◌}
+use Rattle.std.proofs.lemmas.Bool.{cases_lt}
+use Rattle.std.proofs.lemmas.Option.{slice_get_within}
+use Rattle.wm_access.specs.AccessWidth.{bytes_of}
+use Rattle.wm_access.specs.declared.AccessWidth.{AccessWidth}
+use Rattle.wm_access.specs.declared.AccessWidth.TheVariants.{One, Two, Four, Eight}
+use Rattle.wm_event.specs.Event.{byte_written, key_of, reads}
+use Rattle.wm_event.specs.Execution.{Execution, ReadsFrom, byte_by, event_at}
+use Rattle.wm_event.specs.HappensBefore.{Chain, HappensBefore}
+use Rattle.wm_event.specs.Log.{event_in}
+use Rattle.wm_event.specs.LoggedRun.{LoggedRun, execution}
+use Rattle.wm_event.specs.Rules.{IsTearFreeLike}
+use Rattle.wm_event.specs.declared.event.Event.{Event}
+use Rattle.wm_event.specs.declared.event.EventId.{EventId}
+use Rattle.wm_event.specs.declared.event.EventId.TheVariants.{Init, At}
+use Rattle.wm_event.specs.declared.event.EventKey.{EventKey}
+use Rattle.wm_explore.specs.Clocks.{Counts}
+use Rattle.wm_explore.specs.Past.{AreApart, CannotBegin, CannotGive, FindsCommon, Gains, Hides, IsAfter, IsBefore, IsLike, IsPast, IsSource, IsThreadPast, KnowsPast, TakesNext, left_by}
+use Rattle.wm_explore.specs.declared.clock.Clock.{Clock}
+use Rattle.wm_explore.specs.declared.state.State.{State}
+use Rattle.wm_explore.proofs.Beginnings.{some_of}
+use Rattle.wm_explore.proofs.Turning.{item_within}
+
+before_join : (x : Execution) (a b c : EventId) → HappensBefore x a b → HappensBefore x b c → HappensBefore x a c
+before_join x a b c h k = (h.0 ++ b ∷ k.0, join h.0 a h.1)
+  where
+    join : (ms : List EventId) (a : EventId) → Chain x a ms b → Chain x a (ms ++ b ∷ k.0) c
+    join [] a e = (e, k.1)
+    join (m ∷ ms) a e = (e.0, join ms m e.1)
+
+some_bytes : (w : AccessWidth) → 0 < bytes_of w
+some_bytes One = omega arith
+some_bytes Two = omega arith
+some_bytes Four = omega arith
+some_bytes Eight = omega arith
+
+module _ (initial : List ℕ) (s : State) (e : Event) (knows : KnowsPast initial s) (x : LoggedRun) (takes : TakesNext initial s e x) where
+  abbrev b : EventKey
+  b = key_of e
+
+  arrived_there : (i : ℕ) (key : EventKey) → slice_get s.arrived i ≡ Some key → IsSome (event_in x.log key)
+  arrived_there i key at =
+      let f = some_of (event_in s.log key) (takes.has.there i key at) in
+      subst (λ o. IsSome o) (sym (takes.has.events key f.0 f.1)) refl
+
+  next_there : IsSome (event_in x.log b)
+  next_there = subst (λ o. IsSome o) (sym takes.next) refl
+
+  -- ---- by the order of the thread
+
+  pub thread_past : (c : Clock) → IsThreadPast s b c → IsBefore x b c
+  thread_past c (inl none) a counts there = absurd (none a counts)
+  thread_past c (inr is) a counts there = by (knows.past x takes.has is.place is.key c is.at is.at_clock a counts there)
+    where
+      edge : HappensBefore (execution x) (At is.key) (At b)
+      edge = ([], inl (record { first = arrived_there is.place is.key is.at; second = next_there; same_thread = is.same; earlier = is.less }))
+
+      by : (a ≡ is.key) ⊎ HappensBefore (execution x) (At a) (At is.key) → HappensBefore (execution x) (At a) (At b)
+      by (inl same) = subst (λ k. HappensBefore (execution x) (At k) (At b)) (sym same) edge
+      by (inr hb) = before_join (execution x) (At a) (At is.key) (At b) hb edge
+
+  -- ---- the writers of its bytes
+
+  source : (k : ℕ) (w : EventId) → ReadsFrom (execution x) b k w → IsSource s w
+  source k Init from = tt
+  source k (At u) from = takes.from k u from
+
+  left_there : (w : EventId) → IsSource s w → (a : ℕ) → byte_by (execution x) w a ≡ left_by initial s.log w a
+  left_there Init src a = ap (λ i. slice_get i a) takes.has.memory
+  left_there (At w) src a =
+      let f = some_of (event_in s.log w) (takes.has.there src.0 w src.2) in
+      ap (option_and_then (λ e. byte_written e a)) (takes.has.events w f.0 f.1 ∙ sym f.1)
+
+  module _ (before : Clock) (is_before : IsBefore x b before) where
+    hidden : (k : ℕ) (w : EventId) → IsSource s w → ReadsFrom (execution x) b k w → (place : ℕ) → Hides s before place w (e.address + k) → ⊥
+    hidden k w src from place h = (takes.has.valid.keeps_coherence b e k w takes.next from).1 (At h.key) writes (after w src h.after) (is_before h.key h.counted (arrived_there place h.key h.at))
+      where
+        writes : IsSome (byte_by (execution x) (At h.key) (e.address + k))
+        writes = subst (λ o. IsSome o) (sym (left_there (At h.key) (place, slice_get_within s.arrived place h.key h.at, h.at) (e.address + k))) h.writes
+
+        after : (w : EventId) → IsSource s w → IsAfter s place h.key w → HappensBefore (execution x) w (At h.key)
+        after Init src is = ([], arrived_there place h.key h.at)
+        after (At u) src is = by (knows.past x takes.has place h.key is.1 h.at is.2 u is.3 (arrived_there src.0 u src.2))
+          where
+            by : (u ≡ h.key) ⊎ HappensBefore (execution x) (At u) (At h.key) → HappensBefore (execution x) (At u) (At h.key)
+            by (inl same) = absurd (is.0 same)
+            by (inr hb) = hb
+
+    cannot : (k : ℕ) (w : EventId) → ReadsFrom (execution x) b k w → CannotGive initial s before e k w → ⊥
+    cannot k w from (inl value) = value (sym (left_there w (source k w from) (e.address + k)) ∙ (takes.has.valid.keeps_written_values b e k w takes.next from).1)
+    cannot k w from (inr h) = hidden k w (source k w from) from h.0 h.1
+
+    like : (w : EventId) → IsLike s.log e w → IsTearFreeLike (execution x) e w
+    like w l = (l.event, ap (event_at (execution x)) l.is ∙ takes.has.events l.key l.event l.at, l.free, l.same)
+
+    apart : (w u : EventId) (k : ℕ) → AreApart s.log e w u → ReadsFrom (execution x) b 0 w → ReadsFrom (execution x) b k u → ⊥
+    apart w u k are first second = are.other (takes.has.valid.keeps_no_tearing b e takes.next are.free u w ((k, second), like u are.second) ((0, first), like w are.first))
+
+    module _ (reading : reads e ≡ true) where
+      writer : (k : ℕ) → k < bytes_of e.width → (u : EventId) × ReadsFrom (execution x) b k u
+      writer k lt =
+          let count = (takes.has.shaped.good b e takes.next).count ∙ ap (λ r. if r then bytes_of e.width else 0) reading in
+          item_within ((execution x).writers_of b) k (subst (λ n. k < n) (sym count) lt)
+
+      not_begin : (w : EventId) → ReadsFrom (execution x) b 0 w → CannotBegin initial s before e w → ⊥
+      not_begin w from (inl c) = cannot 0 w from c
+      not_begin w from (inr (k, lt, none)) = by (none u.0 (source k u.0 u.1))
+        where
+          u : (v : EventId) × ReadsFrom (execution x) b k v
+          u = writer k lt
+
+          by : AreApart s.log e w u.0 ⊎ CannotGive initial s before e k u.0 → ⊥
+          by (inl are) = apart w u.0 k are from u.1
+          by (inr c) = cannot k u.0 u.1 c
+
+      -- the writer of the lowest byte
+      first : (w : EventId) × ReadsFrom (execution x) b 0 w
+      first = writer 0 (some_bytes e.width)
+
+      pub finds_none : FindsCommon initial s before e None → ⊥
+      finds_none none = not_begin first.0 first.1 (none first.0 (source 0 first.0 first.1))
+
+      pub common_before : (c : Clock) → FindsCommon initial s before e (Some c) → IsBefore x b c
+      common_before c finds a counts there = by (finds first.0 (source 0 first.0 first.1))
+        where
+          gained : (place : ℕ) (key : EventKey) → first.0 ≡ At key → slice_get s.arrived place ≡ Some key → Gains s e place key a → HappensBefore (execution x) (At a) (At b)
+          gained place key is at g = through (knows.past x takes.has place key g.clock at g.at_clock a g.counted there)
+            where
+              edge : HappensBefore (execution x) (At key) (At b)
+              edge = (
+                [],
+                inr (record {
+                  writer = g.event;
+                  reader = e;
+                  is_writer = takes.has.events key g.event g.at_event;
+                  is_reader = takes.next;
+                  writer_atomic = g.writer;
+                  reader_atomic = g.reader;
+                  ranges = g.ranges;
+                  reads = (0, subst (ReadsFrom (execution x) b 0) is first.1);
+                }),
+              )
+
+              through : (a ≡ key) ⊎ HappensBefore (execution x) (At a) (At key) → HappensBefore (execution x) (At a) (At b)
+              through (inl same) = subst (λ k. HappensBefore (execution x) (At k) (At b)) (sym same) edge
+              through (inr hb) = before_join (execution x) (At a) (At key) (At b) hb edge
+
+          by : CannotBegin initial s before e first.0 ⊎ ((a : EventKey) → Counts c a → (place : ℕ) × (key : EventKey) × (first.0 ≡ At key) × (slice_get s.arrived place ≡ Some key) × Gains s e place key a) → HappensBefore (execution x) (At a) (At b)
+          by (inl not) = absurd (not_begin first.0 first.1 not)
+          by (inr gains) = let g = gains a counts in gained g.0 g.1 g.2 g.3 g.4
+
+  -- ---- with the event itself
+
+  pub own_past : (c own : Clock) → IsBefore x b c → ((a : EventKey) → Counts own a → Counts c a ⊎ ((a.thread ≡ b.thread) × (a.number ≤ b.number))) → IsPast x b own
+  own_past c own is with_own a counts there = by (with_own a counts)
+    where
+      number : (a.thread ≡ b.thread) → (a.number < b.number) ⊎ (b.number ≤ a.number) → a.number ≤ b.number → (a ≡ b) ⊎ HappensBefore (execution x) (At a) (At b)
+      number same (inl less) le = inr ([], inl (record { first = there; second = next_there; same_thread = same; earlier = less }))
+      number same (inr most) le = inl (ap (λ i. record { thread = i; number = a.number }) same ∙ ap (λ n. record { thread = b.thread; number = n }) (omega (arith, most, le)))
+
+      by : Counts c a ⊎ ((a.thread ≡ b.thread) × (a.number ≤ b.number)) → (a ≡ b) ⊎ HappensBefore (execution x) (At a) (At b)
+      by (inl counted) = inr (is a counted there)
+      by (inr own) = number own.0 (cases_lt a.number b.number) own.1

@@ -1,0 +1,133 @@
+-- The clocks of a state with one more event, and of one like it.
+use Rattle.std.proofs.Common.{◌≡◌, ℕ, ◌+◌, ◌<◌, ◌≤◌, List, [], ◌∷◌, ◌++◌, length, inl, inr, None, Some, IsSome, refl, sym, ap, subst, ◌∙◌, arith}
+use Rattle.std.specs.Prelude.{◌≢◌, ◌⊎◌, slice_get}
+use Rattle.std.proofs.lemmas.Bool.{cases_eq}
+use Rattle.std.proofs.lemmas.List.{length-append}
+use Rattle.std.proofs.lemmas.Option.{same_Some, slice_get_within}
+use Rattle.wm_ast.specs.declared.module.Module.{Module}
+use Rattle.wm_event.specs.Event.{key_of}
+use Rattle.wm_event.specs.Execution.{ReadsFrom}
+use Rattle.wm_event.specs.Log.{event_in}
+use Rattle.wm_event.specs.LoggedRun.{LoggedRun, execution}
+use Rattle.wm_event.specs.declared.event.Event.{Event}
+use Rattle.wm_event.specs.declared.event.EventId.TheVariants.{At}
+use Rattle.wm_event.specs.declared.event.EventKey.{EventKey}
+use Rattle.wm_event.specs.declared.log.Start.{Start}
+use Rattle.wm_event.specs.declared.log.ThreadLog.{ThreadLog}
+use Rattle.wm_explore.specs.Executions.{IsExecutionOf}
+use Rattle.wm_explore.specs.Past.{FindsPast, HasState, IsPast, KnowsPast, TakesNext}
+use Rattle.wm_explore.specs.States.{GoesOn, HasArrived, IsChild, IsState, with_last}
+use Rattle.wm_explore.specs.declared.clock.Clock.{Clock}
+use Rattle.wm_explore.specs.declared.state.State.{State}
+use Rattle.wm_explore.proofs.Beginnings.{event_at, kept_there, same_event, there_kept, thread_of_event}
+use Rattle.wm_explore.proofs.Children.{next_key}
+use Rattle.wm_explore.proofs.Lists.{at_pushed, extended_at, extended_other, kept_pushed, last_pushed}
+
+-- an execution that goes on from a state has it
+pub has_state : (m : Module) (starts : List Start) (initial : List ℕ) (s : State) (x : LoggedRun) → IsState starts s → IsExecutionOf m starts x → x.initial ≡ initial → GoesOn x s → HasState initial s x
+has_state m starts initial s x fine is memory on = record {
+  memory = memory;
+  shaped = is.shaped;
+  valid = is.valid;
+  there = fine.events;
+  events = events;
+  back = λ i r w k at from. back i r w k at from;
+}
+  where
+    is_there : (key : EventKey) (e : Event) → event_in s.log key ≡ Some e → IsSome (event_in s.log key)
+    is_there key e at = subst (λ o. IsSome o) (sym at) refl
+
+    events : (key : EventKey) (e : Event) → event_in s.log key ≡ Some e → event_in x.log key ≡ Some e
+    events key e at = sym (same_event s.log x.log on.beginning key (there_kept s.log key (is_there key e at))) ∙ at
+
+    back : (i : ℕ) (r w : EventKey) (k : ℕ) → slice_get s.arrived i ≡ Some r → ReadsFrom (execution x) r k (At w) → HasArrived s.arrived i w
+    back i r w k at from =
+        let kept = there_kept s.log r (fine.events i r at) in
+        let there = subst (λ o. IsSome o) (same_event s.log x.log on.beginning r kept) (fine.events i r at) in
+        let writer = fine.listed w (kept_there s.log w (on.writers r k w there kept from)) in
+        (writer.0, on.back r w k i writer.0 there from at writer.1, writer.1)
+
+-- two states that differ in neither log nor arrivals nor clocks
+pub knows_too : (initial : List ℕ) (s t : State) → t.log ≡ s.log → t.arrived ≡ s.arrived → t.clocks ≡ s.clocks → KnowsPast initial s → KnowsPast initial t
+knows_too initial s t same_log same_arrived same_clocks knows = record {
+  count = ap length same_clocks ∙ knows.count ∙ ap length (sym same_arrived);
+  past = λ x has i b c at at_clock. knows.past x (has_too x has) i b c (ap (λ ks. slice_get ks i) (sym same_arrived) ∙ at) (ap (λ cs. slice_get cs i) (sym same_clocks) ∙ at_clock);
+}
+  where
+    has_too : (x : LoggedRun) → HasState initial t x → HasState initial s x
+    has_too x has = record {
+      memory = has.memory;
+      shaped = has.shaped;
+      valid = has.valid;
+      there = λ i key at. subst (λ l. IsSome (event_in l key)) same_log (has.there i key (ap (λ ks. slice_get ks i) same_arrived ∙ at));
+      events = λ key e at. has.events key e (ap (λ l. event_in l key) same_log ∙ at);
+      back = λ i r w k at from. subst (λ ks. HasArrived ks i w) same_arrived (has.back i r w k (ap (λ ks. slice_get ks i) same_arrived ∙ at) from);
+    }
+
+-- ---- a state with one more event
+
+module _ (s : State) (k : ℕ) (t : ThreadLog) (is : slice_get s.log k ≡ Some t) (e : Event) (named : key_of e ≡ next_key k t) (starts : List Start) (fine : IsState starts s) (child : State) (is_child : IsChild k e s child) where
+  new_thread : slice_get child.log k ≡ Some (with_last t e)
+  new_thread = ap (λ ts. slice_get ts k) is_child.log ∙ extended_at k e s.log t is
+
+  old_event : (key : EventKey) (f : Event) → event_in s.log key ≡ Some f → event_in child.log key ≡ Some f
+  old_event key f at = by (cases_eq key.thread k)
+    where
+      u : (v : ThreadLog) × (slice_get s.log key.thread ≡ Some v)
+      u = thread_of_event s.log key f at
+
+      at_number : slice_get u.0.events key.number ≡ Some f
+      at_number = sym (event_at s.log key u.0 u.1) ∙ at
+
+      by : (key.thread ≡ k) ⊎ (key.thread ≢ k) → event_in child.log key ≡ Some f
+      by (inr not) = event_at child.log key u.0 (ap (λ ts. slice_get ts key.thread) is_child.log ∙ extended_other k e s.log key.thread not ∙ u.1) ∙ at_number
+      by (inl same) =
+          let same_thread : t ≡ u.0 = same_Some t u.0 (sym is ∙ ap (slice_get s.log) (sym same) ∙ u.1) in
+          event_at child.log key (with_last t e) (ap (slice_get child.log) same ∙ new_thread) ∙ kept_pushed t.events e key.number f (ap (λ (v : ThreadLog). slice_get v.events key.number) same_thread ∙ at_number)
+
+  new_event : event_in child.log (key_of e) ≡ Some e
+  new_event = ap (event_in child.log) named ∙ event_at child.log (next_key k t) (with_last t e) new_thread ∙ last_pushed t.events e
+
+  old_arrived : (i : ℕ) (key : EventKey) → slice_get s.arrived i ≡ Some key → slice_get child.arrived i ≡ Some key
+  old_arrived i key at = ap (λ ks. slice_get ks i) is_child.arrived ∙ kept_pushed s.arrived (key_of e) i key at
+
+  arrived_before : (n : ℕ) (w : EventKey) → n ≤ length s.arrived → HasArrived child.arrived n w → HasArrived s.arrived n w
+  arrived_before n w le h = by (at_pushed s.arrived (key_of e) h.0 w (ap (λ ks. slice_get ks h.0) (sym is_child.arrived) ∙ h.2))
+    where
+      by : ((h.0 ≡ length s.arrived) × (w ≡ key_of e)) ⊎ (slice_get s.arrived h.0 ≡ Some w) → HasArrived s.arrived n w
+      by (inl last) = absurd (let lt = h.1 in let here = last.0 in omega (arith, lt, here, le))
+      by (inr old) = (h.0, h.1, old)
+
+  module _ (initial : List ℕ) where
+    pub takes_next : (x : LoggedRun) → HasState initial child x → TakesNext initial s e x
+    takes_next x has = record {
+      has = record {
+        memory = has.memory;
+        shaped = has.shaped;
+        valid = has.valid;
+        there = fine.events;
+        events = λ key f at. has.events key f (old_event key f at);
+        back = λ i r w j at from. arrived_before i w (let lt = slice_get_within s.arrived i r at in omega (arith, lt)) (has.back i r w j (old_arrived i r at) from);
+      };
+      next = has.events (key_of e) e new_event;
+      from = λ j w from. arrived_before (length s.arrived) w (omega arith)
+          (has.back (length s.arrived) (key_of e) w j (ap (λ ks. slice_get ks (length s.arrived)) is_child.arrived ∙ last_pushed s.arrived (key_of e)) from);
+    }
+
+    pub knows_child : KnowsPast initial s → (c : Clock) → FindsPast initial s e (Some c) → child.clocks ≡ s.clocks ++ c ∷ [] → KnowsPast initial child
+    knows_child knows c finds pushed = record {
+      count = ap length pushed ∙ length-append s.clocks (c ∷ []) ∙ ap (λ n. n + 1) knows.count ∙ sym (length-append s.arrived (key_of e ∷ [])) ∙ ap length (sym is_child.arrived);
+      past = λ x has i b d at at_clock.
+          by x has i b d (at_pushed s.arrived (key_of e) i b (ap (λ ks. slice_get ks i) (sym is_child.arrived) ∙ at)) (at_pushed s.clocks c i d (ap (λ cs. slice_get cs i) (sym pushed) ∙ at_clock));
+    }
+      where
+        by : (x : LoggedRun) → HasState initial child x → (i : ℕ) (b : EventKey) (d : Clock) → ((i ≡ length s.arrived) × (b ≡ key_of e)) ⊎ (slice_get s.arrived i ≡ Some b)
+            → ((i ≡ length s.clocks) × (d ≡ c)) ⊎ (slice_get s.clocks i ≡ Some d) → IsPast x b d
+        by x has i b d (inr old_b) (inr old_d) = knows.past x (takes_next x has).has i b d old_b old_d
+        by x has i b d (inl last_b) (inl last_d) = subst (λ key. IsPast x key d) (sym last_b.1) (subst (IsPast x (key_of e)) (sym last_d.1) (finds x (takes_next x has)))
+        by x has i b d (inr old_b) (inl last_d) = absurd (let lt = slice_get_within s.arrived i b old_b in let here = last_d.0 in let count = knows.count in omega (arith, lt, here, count))
+        by x has i b d (inl last_b) (inr old_d) = absurd (let lt = slice_get_within s.clocks i d old_d in let here = last_b.0 in let count = knows.count in omega (arith, lt, here, count))
+
+    -- no execution goes on from it
+    pub forbidden : FindsPast initial s e None → (m : Module) (x : LoggedRun) → IsState starts child → IsExecutionOf m starts x → x.initial ≡ initial → GoesOn x child → ⊥
+    forbidden none m x fine_child is_execution memory on = none x (takes_next x (has_state m starts initial child x fine_child is_execution memory on))

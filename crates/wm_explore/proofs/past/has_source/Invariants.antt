@@ -1,0 +1,11 @@
+use Rattle.std.proofs.Common.{◌≡◌, ℕ, ◌<◌, Some}
+use Rattle.std.specs.Prelude.{slice_get}
+use Rattle.wm_event.specs.declared.event.EventId.TheVariants.{At}
+use Rattle.wm_event.specs.declared.event.EventKey.{EventKey}
+use Rattle.wm_explore.specs.Past.{CannotGiveBeside}
+use Rattle.wm_explore.proofs.past.has_source.Given as goal
+
+abbrev pub invariant-loop-place : goal.invariant-loop-place
+invariant-loop-place l = record {
+  none : (i : ℕ) (w : EventKey) → i < l.place → slice_get l.state.arrived i ≡ Some w → CannotGiveBeside l.initial' l.state l.before l.next l.first l.byte (At w);
+}

@@ -1,0 +1,154 @@
+-- What surely happens before the events of a state: in each execution that has them.
+use Rattle.std.specs.Prelude.{◌≡◌, ◌≢◌, ℕ, ◌+◌, ◌<◌, ◌⊎◌, List, Option, None, Some, IsSome, IsTrue, ⊤, length, slice_get}
+use Rattle.wm_access.specs.AccessWidth.{bytes_of}
+use Rattle.wm_event.specs.Byte.{byte_of}
+use Rattle.wm_event.specs.Event.{is_atomic, key_of, range_of}
+use Rattle.wm_event.specs.Execution.{ReadsFrom}
+use Rattle.wm_event.specs.HappensBefore.{HappensBefore}
+use Rattle.wm_event.specs.Log.{event_in}
+use Rattle.wm_event.specs.LoggedRun.{LoggedRun, execution}
+use Rattle.wm_event.specs.Rules.{IsTearFree, IsValid}
+use Rattle.wm_event.specs.Shape.{IsWellShaped}
+use Rattle.wm_event.specs.declared.event.Event.{Event}
+use Rattle.wm_event.specs.declared.event.EventId.{EventId}
+use Rattle.wm_event.specs.declared.event.EventId.TheVariants.{Init, At}
+use Rattle.wm_event.specs.declared.event.EventKey.{EventKey}
+use Rattle.wm_event.specs.declared.log.ThreadLog.{ThreadLog}
+use Rattle.wm_explore.specs.Clocks.{Counts}
+use Rattle.wm_explore.specs.States.{HasArrived}
+use Rattle.wm_explore.specs.Values.{byte_left}
+use Rattle.wm_explore.specs.declared.clock.Clock.{Clock}
+use Rattle.wm_explore.specs.declared.state.State.{State}
+
+-- ---- executions
+
+-- x is valid over this memory, and has the events of the state, which take their bytes from events that arrived before them
+pub record HasState (initial : List ℕ) (s : State) (x : LoggedRun) : Type 0 where
+  pub memory : x.initial ≡ initial
+  pub shaped : IsWellShaped x
+  pub valid : IsValid (execution x)
+  pub there : (i : ℕ) (key : EventKey) → slice_get s.arrived i ≡ Some key → IsSome (event_in s.log key)
+  pub events : (key : EventKey) (e : Event) → event_in s.log key ≡ Some e → event_in x.log key ≡ Some e
+  pub back : (i : ℕ) (r w : EventKey) (k : ℕ) → slice_get s.arrived i ≡ Some r → ReadsFrom (execution x) r k (At w) → HasArrived s.arrived i w
+
+-- and it has e too, which takes its bytes from events that have arrived
+pub record TakesNext (initial : List ℕ) (s : State) (e : Event) (x : LoggedRun) : Type 0 where
+  pub has : HasState initial s x
+  pub next : event_in x.log (key_of e) ≡ Some e
+  pub from : (k : ℕ) (w : EventKey) → ReadsFrom (execution x) (key_of e) k (At w) → HasArrived s.arrived (length s.arrived) w
+
+-- what the clock counts happens before b
+abbrev pub IsBefore : LoggedRun → EventKey → Clock → Type 0
+IsBefore x b c = (a : EventKey) → Counts c a → IsSome (event_in x.log a) → HappensBefore (execution x) (At a) (At b)
+
+-- or is b
+abbrev pub IsPast : LoggedRun → EventKey → Clock → Type 0
+IsPast x b c = (a : EventKey) → Counts c a → IsSome (event_in x.log a) → (a ≡ b) ⊎ HappensBefore (execution x) (At a) (At b)
+
+-- there is a clock for each event that has arrived, of what surely happens before it
+pub record KnowsPast (initial : List ℕ) (s : State) : Type 0 where
+  pub count : length s.clocks ≡ length s.arrived
+  pub past : (x : LoggedRun) → HasState initial s x → (i : ℕ) (b : EventKey) (c : Clock) → slice_get s.arrived i ≡ Some b → slice_get s.clocks i ≡ Some c → IsPast x b c
+
+-- None: no execution has e next; or what surely happens before it
+abbrev pub FindsPast : List ℕ → State → Event → Option Clock → Type 0
+FindsPast initial s e None = (x : LoggedRun) → TakesNext initial s e x → ⊥
+FindsPast initial s e (Some c) = (x : LoggedRun) → TakesNext initial s e x → IsPast x (key_of e) c
+
+-- ---- the next event's thread
+
+-- c is the clock of an earlier event of b's thread
+pub record IsEarlier (s : State) (b : EventKey) (c : Clock) : Type 0 where
+  pub place : ℕ
+  pub key : EventKey
+  pub at : slice_get s.arrived place ≡ Some key
+  pub at_clock : slice_get s.clocks place ≡ Some c
+  pub same : key.thread ≡ b.thread
+  pub less : key.number < b.number
+
+abbrev pub IsThreadPast : State → EventKey → Clock → Type 0
+IsThreadPast s b c = ((a : EventKey) → Counts c a → ⊥) ⊎ IsEarlier s b c
+
+-- ---- sources of the next event's bytes
+
+abbrev pub IsSource : State → EventId → Type 0
+IsSource s Init = ⊤
+IsSource s (At w) = HasArrived s.arrived (length s.arrived) w
+
+-- the byte that a source left at an address
+abbrev pub left_by : List ℕ → List ThreadLog → EventId → ℕ → Option ℕ
+left_by initial log Init a = slice_get initial a
+left_by initial log (At w) a = byte_left log w a
+
+-- the event that arrived at this place, which is key, comes after w
+abbrev pub IsAfter : State → ℕ → EventKey → EventId → Type 0
+IsAfter s place key Init = ⊤
+IsAfter s place key (At w) = (w ≢ key) × (c : Clock) × (slice_get s.clocks place ≡ Some c) × Counts c w
+
+-- the event that arrived at this place writes the address, after the source w and before what c is the past of
+pub record Hides (s : State) (c : Clock) (place : ℕ) (w : EventId) (a : ℕ) : Type 0 where
+  pub key : EventKey
+  pub at : slice_get s.arrived place ≡ Some key
+  pub counted : Counts c key
+  pub writes : IsSome (byte_left s.log key a)
+  pub after : IsAfter s place key w
+
+-- byte k of e isn't from w
+abbrev pub CannotGive : List ℕ → State → Clock → Event → ℕ → EventId → Type 0
+CannotGive initial s c e k w = (left_by initial s.log w (e.address + k) ≢ Some (byte_of e.read k)) ⊎ ((place : ℕ) × Hides s c place w (e.address + k))
+
+-- w is a tear-free event with the range of e
+pub record IsLike (log : List ThreadLog) (e : Event) (w : EventId) : Type 0 where
+  pub key : EventKey
+  pub event : Event
+  pub is : w ≡ At key
+  pub at : event_in log key ≡ Some event
+  pub free : IsTearFree event
+  pub same : range_of event ≡ range_of e
+
+-- e doesn't take bytes from both
+pub record AreApart (log : List ThreadLog) (e : Event) (w u : EventId) : Type 0 where
+  pub free : IsTearFree e
+  pub first : IsLike log e w
+  pub second : IsLike log e u
+  pub other : u ≢ w
+
+-- byte k of e isn't from u if its lowest byte is from w
+abbrev pub CannotGiveBeside : List ℕ → State → Clock → Event → EventId → ℕ → EventId → Type 0
+CannotGiveBeside initial s c e w k u = AreApart s.log e w u ⊎ CannotGive initial s c e k u
+
+-- byte k of e is from nothing if its lowest byte is from w
+abbrev pub HasNoSource : List ℕ → State → Clock → Event → EventId → ℕ → Type 0
+HasNoSource initial s c e w k = (u : EventId) → IsSource s u → CannotGiveBeside initial s c e w k u
+
+-- the lowest byte of e isn't from w
+abbrev pub CannotBegin : List ℕ → State → Clock → Event → EventId → Type 0
+CannotBegin initial s c e w = CannotGive initial s c e 0 w ⊎ ((k : ℕ) × (k < bytes_of e.width) × HasNoSource initial s c e w k)
+
+-- e synchronizes with key, which arrived at this place, if it takes a byte from it; and the clock there counts a
+pub record Gains (s : State) (e : Event) (place : ℕ) (key a : EventKey) : Type 0 where
+  pub event : Event
+  pub clock : Clock
+  pub at_clock : slice_get s.clocks place ≡ Some clock
+  pub counted : Counts clock a
+  pub at_event : event_in s.log key ≡ Some event
+  pub writer : IsTrue (is_atomic event)
+  pub reader : IsTrue (is_atomic e)
+  pub ranges : range_of event ≡ range_of e
+
+-- what c counts comes before e if its lowest byte is from key, which arrived at this place
+abbrev pub AreGainedAt : State → Event → ℕ → EventKey → Clock → Type 0
+AreGainedAt s e place key c = (a : EventKey) → Counts c a → Gains s e place key a
+
+-- or is from w
+abbrev pub AreGained : State → Event → EventId → Clock → Type 0
+AreGained s e w c = (a : EventKey) → Counts c a → (place : ℕ) × (key : EventKey) × (w ≡ At key) × (slice_get s.arrived place ≡ Some key) × Gains s e place key a
+
+-- None: the lowest byte isn't from w; or it isn't, or c is gained from it
+abbrev pub FindsFor : List ℕ → State → Clock → Event → Option Clock → EventId → Type 0
+FindsFor initial s before e None w = CannotBegin initial s before e w
+FindsFor initial s before e (Some c) w = CannotBegin initial s before e w ⊎ AreGained s e w c
+
+-- the same of each source
+abbrev pub FindsCommon : List ℕ → State → Clock → Event → Option Clock → Type 0
+FindsCommon initial s before e common = (w : EventId) → IsSource s w → FindsFor initial s before e common w

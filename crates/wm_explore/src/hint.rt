@@ -1,0 +1,343 @@
+//! Likely executions: guesses that are not proved. Nothing rests on them but how often a search for a witness is made.
+
+use crate::clock::Clock;
+use std::alloc::{AllocError, Global};
+use wm_event::{Event, EventId, EventKey, EventKind, Initial, Log, Witness};
+
+/// An event that has happened.
+#[derive(Clone, Copy)]
+struct Happened {
+    event: Event,
+    /// What happens before it, and it itself.
+    clock: Clock,
+}
+
+/// An execution of the events of a state that the memory rules are likely to permit: the events in the order of a witness.
+#[derive(Drop)]
+pub(crate) struct Hint {
+    order: Vec<Happened>,
+}
+
+/// Where a read takes its bytes from.
+#[derive(Clone, Copy)]
+enum Source<'a> {
+    Init,
+    /// The event at that place of the order.
+    From(usize, &'a Happened),
+}
+
+/// A place in the order for a new event.
+#[derive(Clone, Copy)]
+struct Spot {
+    place: usize,
+    happened: Happened,
+}
+
+/// Whether an event that takes a byte from another one synchronizes with it.
+fn synchronizes(writer: &Event, reader: &Event) -> bool {
+    writer.is_atomic() && reader.is_atomic() && writer.range() == reader.range()
+}
+
+/// Whether an event writes a byte that another one accesses.
+fn writes_in(writer: &Event, reader: &Event) -> bool {
+    let (first, second) = (u64::from(writer.address), u64::from(reader.address));
+    writer.writes()
+        && first < second + u64::from(reader.width.bytes())
+        && second < first + u64::from(writer.width.bytes())
+}
+
+/// The write that leaves the bytes that an event reads.
+fn write_of(reader: &Event) -> Event {
+    Event {
+        kind: EventKind::Write,
+        written: reader.read,
+        ..*reader
+    }
+}
+
+/// Whether an event leaves all bytes that another one reads.
+fn leaves(writer: &Event, reader: &Event) -> bool {
+    if writer.range() == reader.range() {
+        return writer.writes() && writer.written == reader.read;
+    }
+    if !writes_in(writer, reader) {
+        return false;
+    }
+    let write = write_of(reader);
+    for byte in 0..reader.width.bytes() {
+        let address = u64::from(reader.address) + u64::from(byte);
+        if writer.byte_written(address) != write.byte_written(address) {
+            return false;
+        }
+    }
+    true
+}
+
+/// Whether the initial memory has the bytes that an event reads.
+fn begins_with(initial: &Initial, reader: &Event) -> bool {
+    let write = write_of(reader);
+    for byte in 0..reader.width.bytes() {
+        let address = u64::from(reader.address) + u64::from(byte);
+        if initial.byte(address as usize) != write.byte_written(address) {
+            return false;
+        }
+    }
+    true
+}
+
+/// A reader that takes its bytes from a source.
+#[derive(Clone, Copy)]
+struct Taking<'a> {
+    reader: Event,
+    source: Source<'a>,
+    /// What happens before the reader, and it itself.
+    clock: Clock,
+}
+
+/// The room that another event leaves a reader in the order.
+#[derive(Clone, Copy)]
+enum Room {
+    /// Anywhere.
+    Free,
+    /// Before that event.
+    Before,
+    /// Nowhere.
+    Nowhere,
+}
+
+impl<'a> Taking<'a> {
+    /// A reader that takes its bytes from a source, where so much happens before it otherwise.
+    fn of(reader: Event, source: Source<'a>, before: &Clock) -> Self {
+        let clock = match source {
+            Source::From(_, writer) if synchronizes(&writer.event, &reader) => {
+                before.joined(&writer.clock)
+            }
+            _ => *before,
+        };
+        Taking {
+            reader,
+            source,
+            clock,
+        }
+    }
+
+    /// Whether the source happens before another event.
+    fn source_is_before(&self, other: &Happened) -> bool {
+        match self.source {
+            Source::Init => true,
+            Source::From(_, writer) => other.clock.counts(writer.event.key()),
+        }
+    }
+
+    /// Whether the source happens before the reader.
+    fn source_is_past(&self) -> bool {
+        match self.source {
+            Source::Init => true,
+            Source::From(_, writer) => self.clock.counts(writer.event.key()),
+        }
+    }
+
+    /// The room that an atomic write leaves the reader that stands after the source.
+    fn room_by_atomic(&self, other: &Happened) -> Room {
+        let write = &other.event;
+        if let Source::From(_, writer) = self.source
+            && writer.event.is_atomic()
+            && writer.event.range() == write.range()
+            && self.source_is_past()
+            && self.clock.counts(write.key())
+        {
+            return Room::Nowhere;
+        }
+        if !self.reader.is_atomic() || self.reader.range() != write.range() {
+            return Room::Free;
+        }
+        match self.source {
+            Source::From(_, writer) if synchronizes(&writer.event, &self.reader) => Room::Before,
+            _ if self.source_is_past() && self.source_is_before(other) => Room::Before,
+            _ => Room::Free,
+        }
+    }
+
+    /// The room that the event at a place of the order leaves the reader.
+    fn room_by(&self, place: usize, other: &Happened) -> Room {
+        if !other.event.writes() {
+            return Room::Free;
+        }
+        let is_after = match self.source {
+            Source::Init => true,
+            Source::From(source, _) => source < place,
+        };
+        if !is_after {
+            return Room::Free;
+        }
+        if self.clock.counts(other.event.key())
+            && writes_in(&other.event, &self.reader)
+            && self.source_is_before(other)
+        {
+            return Room::Nowhere;
+        }
+        if other.event.is_atomic() {
+            self.room_by_atomic(other)
+        } else {
+            Room::Free
+        }
+    }
+
+    /// A place in the order that the reader can have: the first one, so that the next events of its thread can have the most.
+    fn place(&self, order: &[Happened]) -> Option<usize> {
+        let mut earliest = 0usize;
+        let mut latest = order.len();
+        for (place, other) in order.iter().enumerate() {
+            if self.clock.counts(other.event.key()) {
+                earliest = place.saturating_add(1);
+            }
+            match self.room_by(place, other) {
+                Room::Free => {}
+                Room::Before => latest = latest.min(place),
+                Room::Nowhere => return None,
+            }
+        }
+        // A write in the middle could come between others.
+        if self.reader.writes() {
+            earliest = order.len();
+        }
+        if latest < earliest {
+            return None;
+        }
+        Some(earliest)
+    }
+
+    /// The reader at a place that it can have.
+    fn spot(&self, order: &[Happened]) -> Option<Spot> {
+        let place = self.place(order)?;
+        Some(Spot {
+            place,
+            happened: Happened {
+                event: self.reader,
+                clock: self.clock,
+            },
+        })
+    }
+}
+
+/// What happens before the next event of a thread, if it takes nothing from other threads, and it itself.
+fn next_clock(order: &[Happened], next: EventKey) -> Clock {
+    let mut clock = Clock::zero();
+    for happened in order {
+        if happened.event.thread == next.thread {
+            clock = happened.clock;
+        }
+    }
+    clock.with(next)
+}
+
+/// A place for a new event that reads, which takes all bytes from the first source from which it can: so the least happens
+/// before it.
+fn reading_spot(order: &[Happened], initial: &Initial, event: Event) -> Option<Spot> {
+    let before = next_clock(order, event.key());
+    if begins_with(initial, &event)
+        && let Some(spot) = Taking::of(event, Source::Init, &before).spot(order)
+    {
+        return Some(spot);
+    }
+    for (place, writer) in order.iter().enumerate() {
+        if leaves(&writer.event, &event)
+            && let Some(spot) = Taking::of(event, Source::From(place, writer), &before).spot(
+                order,
+            )
+        {
+            return Some(spot);
+        }
+    }
+    None
+}
+
+impl Hint {
+    /// Nothing has happened.
+    pub(crate) fn new(alloc: Global) -> Self {
+        Hint {
+            order: Vec::new(alloc),
+        }
+    }
+
+    /// A copy.
+    pub(crate) fn copy(&self, alloc: Global) -> Result<Self, AllocError> {
+        Ok(Hint {
+            order: self.order.as_slice().to_vec(alloc)?,
+        })
+    }
+
+    /// The same with one more event; None if no place for it is found.
+    pub(crate) fn with(
+        &self,
+        alloc: Global,
+        initial: &Initial,
+        event: Event,
+    ) -> Result<Option<Self>, AllocError> {
+        let order = self.order.as_slice();
+        let spot = if event.reads() {
+            reading_spot(order, initial, event)
+        } else {
+            let clock = next_clock(order, event.key());
+            let place = order.len();
+            let happened = Happened { event, clock };
+            Some(Spot { place, happened })
+        };
+        match spot {
+            None => Ok(None),
+            Some(spot) => Ok(Some(self.inserted(alloc, &spot)?)),
+        }
+    }
+
+    /// The same with an event at a place.
+    fn inserted(&self, alloc: Global, spot: &Spot) -> Result<Self, AllocError> {
+        let mut order = Vec::with_capacity(alloc, self.order.len().saturating_add(1))?;
+        for (place, happened) in self.order.as_slice().iter().enumerate() {
+            if place == spot.place {
+                order.push(spot.happened)?;
+            }
+            order.push(*happened)?;
+        }
+        if spot.place >= self.order.len() {
+            order.push(spot.happened)?;
+        }
+        Ok(Hint { order })
+    }
+
+    /// The event of that name.
+    fn find(&self, key: EventKey) -> Option<&Happened> {
+        self.order
+            .as_slice()
+            .iter()
+            .find(|happened| happened.event.key() == key)
+    }
+
+    /// What happens before an event with these writers, and it itself.
+    fn clock_after(&self, event: &Event, writers: &[EventId]) -> Clock {
+        let mut clock = next_clock(self.order.as_slice(), event.key());
+        for writer in writers {
+            if let EventId::At(key) = writer
+                && let Some(happened) = self.find(*key)
+                && synchronizes(&happened.event, event)
+            {
+                clock = clock.joined(&happened.clock);
+            }
+        }
+        clock
+    }
+
+    /// The execution of a log with a witness.
+    pub(crate) fn of(alloc: Global, log: &Log, witness: &Witness) -> Result<Self, AllocError> {
+        let mut hint = Hint::new(alloc);
+        for key in witness.order.as_slice() {
+            if let Some(event) = log.event(*key) {
+                let clock = hint.clock_after(event, witness.writers(*key));
+                hint.order.push(Happened {
+                    event: *event,
+                    clock,
+                })?;
+            }
+        }
+        Ok(hint)
+    }
+}

@@ -1,0 +1,325 @@
+//! What surely happens before an event that is added to a state, whatever wrote the bytes that were read.
+ghost use Rattle.std.specs.Prelude.{◌≡◌, ◌↔◌, ◌<◌, ℕ, List, Some, true, false, IfSome, IsTrue, slice_get};
+ghost use Rattle.wm_event.specs.Event.{key_of};
+ghost use Rattle.wm_event.specs.Rules.{IsTearFree};
+ghost use Rattle.wm_event.specs.declared.event.EventId.{EventId};
+ghost use Rattle.wm_event.specs.declared.event.Event.{Event};
+ghost use Rattle.wm_event.specs.declared.event.EventId.TheVariants.{At, Init};
+ghost use Rattle.wm_explore.specs.Past.{AreApart, AreGainedAt, CannotBegin, CannotGive, CannotGiveBeside, FindsCommon, FindsFor, FindsPast, HasNoSource, Hides, IsAfter, IsEarlier, IsLike, IsThreadPast, KnowsPast, left_by};
+
+use crate::clock::Clock;
+use crate::state::State;
+use crate::values::byte_left;
+use wm_access::AccessWidth;
+use wm_event::{Event, EventId, EventKey, Initial, byte_of};
+
+/// The clock of the event that arrived at a place, if it is an earlier one of the thread of the next event.
+fn earlier(state: &State, place: usize, next: EventKey) -> Option<Clock>
+    ensures { IfSome result (IsEarlier state.now next) }
+{
+    let key = state.arrived.get(place)?;
+    if key.thread != next.thread {
+        return None;
+    }
+    if key.number >= next.number {
+        return None;
+    }
+    state.clocks.get(place).copied()
+}
+
+/// What happens before the next event, by the order of its thread.
+fn before_next(state: &State, next: EventKey) -> Clock
+    ensures { IsThreadPast state.now next result }
+{
+    let mut before = Clock::zero();
+    for place in 0..state.arrived.len() {
+        match earlier(state, place, next) {
+            None => {}
+            Some(clock) => before = clock,
+        }
+    }
+    before
+}
+
+/// Whether the event that arrived at a place, which is `key`, comes after a source.
+fn is_after(state: &State, place: usize, key: EventKey, source: EventId) -> bool
+    ensures { result ≡ true → IsAfter state.now place key source }
+{
+    let EventId::At(writer) = source else {
+        return true;
+    };
+    if writer == key {
+        return false;
+    }
+    match state.clocks.get(place) {
+        None => false,
+        Some(clock) => clock.counts(writer),
+    }
+}
+
+/// Whether the event that arrived at a place surely writes an address after a source and before the next event.
+fn hides(state: &State, before: &Clock, place: usize, source: EventId, address: u64) -> bool
+    ensures { result ≡ true → Hides state.now before.now place source address }
+{
+    let Some(key) = state.arrived.get(place) else {
+        return false;
+    };
+    if !before.counts(*key) {
+        return false;
+    }
+    if byte_left(state, *key, address).is_none() {
+        return false;
+    }
+    is_after(state, place, *key, source)
+}
+
+/// Whether some event surely writes an address after a source and before the next event.
+fn is_hidden(state: &State, before: &Clock, source: EventId, address: u64) -> bool
+    ensures { result ≡ true → (place : ℕ) × Hides state.now before.now place source address }
+{
+    for place in 0..state.arrived.len() {
+        if hides(state, before, place, source, address) {
+            return true;
+        }
+    }
+    false
+}
+
+/// The byte that a source left at an address.
+fn left(state: &State, initial: &Initial, source: EventId, address: u64) -> Option<u8>
+    ensures { result ≡ left_by initial.now state.now.log source address }
+{
+    match source {
+        EventId::Init => initial.byte(address as usize),
+        EventId::At(key) => byte_left(state, key, address),
+    }
+}
+
+/// Whether the next event can have a byte from a source: the value is the one read, and nothing surely hides it.
+fn can_give(
+    state: &State,
+    initial: &Initial,
+    before: &Clock,
+    next: &Event,
+    byte: u8,
+    source: EventId,
+) -> bool
+    requires { byte < 8 }
+    ensures { result ≡ false → CannotGive initial.now state.now before.now next.now byte source }
+{
+    let address = u64::from(next.address) + u64::from(byte);
+    match left(state, initial, source, address) {
+        None => false,
+        Some(value) => {
+            if value != byte_of(next.read, byte) {
+                return false;
+            }
+            !is_hidden(state, before, source, address)
+        }
+    }
+}
+
+/// Whether an event is atomic, or plain of 1, 2 or 4 bytes at a multiple of its width.
+fn is_tear_free(event: &Event) -> bool
+    ensures { IsTrue result ↔ IsTearFree event.now }
+{
+    event.is_atomic()
+        || match event.width {
+            AccessWidth::One => true,
+            AccessWidth::Two => event.address % 2 == 0,
+            AccessWidth::Four => event.address % 4 == 0,
+            AccessWidth::Eight => false,
+        }
+}
+
+/// Whether a source is a tear-free event with the range of the next one.
+fn is_like(state: &State, next: &Event, source: EventId) -> bool
+    ensures { result ≡ true → IsLike state.now.log next.now source }
+{
+    let EventId::At(key) = source else {
+        return false;
+    };
+    let Some(event) = state.log.event(key) else {
+        return false;
+    };
+    if event.range() != next.range() {
+        return false;
+    }
+    is_tear_free(event)
+}
+
+/// Whether the next event doesn't take bytes from both sources, since it is tear-free.
+fn are_apart(state: &State, next: &Event, source: EventId, other: EventId) -> bool
+    ensures { result ≡ true → AreApart state.now.log next.now source other }
+{
+    if other == source {
+        return false;
+    }
+    if !is_tear_free(next) {
+        return false;
+    }
+    if !is_like(state, next, source) {
+        return false;
+    }
+    is_like(state, next, other)
+}
+
+/// Whether the next event can have a byte from a source where its lowest byte is from `first`.
+fn can_give_beside(
+    state: &State,
+    initial: &Initial,
+    before: &Clock,
+    next: &Event,
+    first: EventId,
+    byte: u8,
+    source: EventId,
+) -> bool
+    requires { byte < 8 }
+    ensures { result ≡ false → CannotGiveBeside initial.now state.now before.now next.now first byte source }
+{
+    if are_apart(state, next, first, source) {
+        return false;
+    }
+    can_give(state, initial, before, next, byte, source)
+}
+
+/// Whether the next event can have a byte from some source where its lowest byte is from `first`.
+fn has_source(
+    state: &State,
+    initial: &Initial,
+    before: &Clock,
+    next: &Event,
+    first: EventId,
+    byte: u8,
+) -> bool
+    requires { byte < 8 }
+    ensures { result ≡ false → HasNoSource initial.now state.now before.now next.now first byte }
+{
+    if can_give(state, initial, before, next, byte, first) {
+        return true;
+    }
+    if can_give_beside(state, initial, before, next, first, byte, EventId::Init) {
+        return true;
+    }
+    let arrived = state.arrived.as_slice();
+    for place in 0..arrived.len() {
+        let source = EventId::At(arrived[place]);
+        if can_give_beside(state, initial, before, next, first, byte, source) {
+            return true;
+        }
+    }
+    false
+}
+
+/// Whether the next event can have its lowest byte from a source.
+fn can_begin(
+    state: &State,
+    initial: &Initial,
+    before: &Clock,
+    next: &Event,
+    source: EventId,
+) -> bool
+    ensures { result ≡ false → CannotBegin initial.now state.now before.now next.now source }
+{
+    if !can_give(state, initial, before, next, 0, source) {
+        return false;
+    }
+    for byte in 1..next.width.bytes() {
+        if !has_source(state, initial, before, next, source, byte) {
+            return false;
+        }
+    }
+    true
+}
+
+/// What surely happens before the next event if its lowest byte is from the event that arrived at a place, by synchronizing
+/// with it.
+fn gained(state: &State, next: &Event, place: usize, key: EventKey) -> Clock
+    ensures { AreGainedAt state.now next.now place key result }
+{
+    let Some(event) = state.log.event(key) else {
+        return Clock::zero();
+    };
+    if !event.is_atomic() {
+        return Clock::zero();
+    }
+    if !next.is_atomic() {
+        return Clock::zero();
+    }
+    if event.range() != next.range() {
+        return Clock::zero();
+    }
+    match state.clocks.get(place) {
+        None => Clock::zero(),
+        Some(clock) => *clock,
+    }
+}
+
+/// What the next event gains if its lowest byte is from the initial memory; None if it isn't.
+fn gained_initially(state: &State, initial: &Initial, before: &Clock, next: &Event) -> Option<Clock>
+    ensures { FindsFor initial.now state.now before.now next.now result Init }
+{
+    if can_begin(state, initial, before, next, EventId::Init) {
+        Some(Clock::zero())
+    } else {
+        None
+    }
+}
+
+/// What the next event gains from the sources before and from the event that arrived at a place.
+fn gained_too(
+    state: &State,
+    initial: &Initial,
+    before: &Clock,
+    next: &Event,
+    common: Option<Clock>,
+    place: usize,
+    key: EventKey,
+) -> Option<Clock>
+    requires { slice_get state.now.arrived place ≡ Some key }
+    ensures here { FindsFor initial.now state.now before.now next.now result (At key) }
+    ensures kept { (w : EventId) → FindsFor initial.now state.now before.now next.now common w →
+        FindsFor initial.now state.now before.now next.now result w }
+{
+    if !can_begin(state, initial, before, next, EventId::At(key)) {
+        return common;
+    }
+    let gained = gained(state, next, place, key);
+    match common {
+        None => Some(gained),
+        Some(other) => Some(other.met(&gained)),
+    }
+}
+
+/// What the next event gains from each source that its lowest byte can have; None if it can have none.
+fn common_past(state: &State, initial: &Initial, before: &Clock, next: &Event) -> Option<Clock>
+    ensures { FindsCommon initial.now state.now before.now next.now result }
+{
+    let mut common = gained_initially(state, initial, before, next);
+    let arrived = state.arrived.as_slice();
+    for place in 0..arrived.len() {
+        common = gained_too(state, initial, before, next, common, place, arrived[place]);
+    }
+    common
+}
+
+/// What surely happens before an event that is added to a state, by the order of its thread, and it itself.
+pub(crate) fn past_of_write(state: &State, next: EventKey) -> Clock
+    ensures { (initial : List ℕ) (e : Event) → key_of e ≡ next → KnowsPast initial state.now → FindsPast initial state.now e (Some result) }
+{
+    before_next(state, next).with(next)
+}
+
+/// What surely happens before an event that is added to a state, and it itself; None if no valid execution has it there.
+pub(crate) fn past_of(state: &State, initial: &Initial, next: &Event) -> Option<Clock>
+    ensures { KnowsPast initial.now state.now → FindsPast initial.now state.now next.now result }
+{
+    if !next.reads() {
+        return Some(past_of_write(state, next.key()));
+    }
+    let before = before_next(state, next.key());
+    match common_past(state, initial, &before, next) {
+        None => None,
+        Some(common) => Some(before.joined(&common).with(next.key())),
+    }
+}
