@@ -27,3 +27,4 @@ pub mod Shortening
 pub mod StandardLaw
 pub mod UniformLaw
 pub mod Exploring
+pub mod Beside

@@ -10,6 +10,7 @@ mod judge;
 mod law;
 mod search;
 mod state;
+mod subtrees;
 mod turn;
 mod values;
 
