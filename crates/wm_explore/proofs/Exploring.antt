@@ -122,7 +122,7 @@ module _ (starts : List Start) (s : State) (first : IsFirstState starts s) where
 pub stands_itself : (m : Module) (starts : List Start) (x : LoggedRun) → IsExecutionOf m starts x → IsCausal (execution x) → StandsFor m starts x x
 stands_itself m starts x is causal = record { is_execution = is; causal = causal; ends = refl; no_more = omega arith; within = λ n h. h }
 
-stands_through : (m : Module) (starts : List Start) (z y x : LoggedRun) → StandsFor m starts z y → StandsFor m starts y x → StandsFor m starts z x
+pub stands_through : (m : Module) (starts : List Start) (z y x : LoggedRun) → StandsFor m starts z y → StandsFor m starts y x → StandsFor m starts z x
 stands_through m starts z y x a b = record {
   is_execution = a.is_execution;
   causal = a.causal;
@@ -157,7 +157,7 @@ module _ (m : Module) (starts : List Start) (events : ℕ) (p : Progress) (progr
   }
 
   -- what was covered is covered by the rest, or goes on from the state
-  rest_covers : (x : LoggedRun) → Covers events p x → Covers events q x ⊎ GoesOn x s
+  pub rest_covers : (x : LoggedRun) → Covers events p x → Covers events q x ⊎ GoesOn x s
   rest_covers x (listed (i, f, at, ends)) = inl (listed (i, f, ap (λ fs. slice_get fs.items i) same_finished ∙ at, ends))
   rest_covers x (excused why) = inl (excused (subst (λ b. IsExcused events b x.log) (sym same_met) why))
   rest_covers x (left i v at on) = by (at_pushed q.work.items s i v (ap (λ ss. slice_get ss i) (sym popped) ∙ at))
@@ -166,21 +166,17 @@ module _ (m : Module) (starts : List Start) (events : ℕ) (p : Progress) (progr
       by (inl last) = inr (subst (GoesOn x) last.1 on)
       by (inr old) = inl (left i v old on)
 
-  still_covers : (r : Progress) → Extends m starts events s q r → (x : LoggedRun) → IsExecutionOf m starts x → IsCausal (execution x) → Covers events p x → Covers events r x
+  pub still_covers : (r : Progress) → Extends m starts events s q r → (x : LoggedRun) → IsExecutionOf m starts x → IsCausal (execution x) → Covers events p x → Covers events r x
   still_covers r step x is causal covers = by (rest_covers x covers)
     where
       by : Covers events q x ⊎ GoesOn x s → Covers events r x
       by (inl c) = step.keeps x is causal c
       by (inr on) = step.takes x is causal on
 
-  -- after the state is extended
-  pub still_covers_for : (r : Progress) → Extends m starts events s q r → (x : LoggedRun) → CoversFor m starts events p x → CoversFor m starts events r x
-  still_covers_for r step x (y, stands, covers) = (y, stands, still_covers r step y stands.is_execution stands.causal covers)
-
   -- after the state is dropped, since a thread's last events in it are an idle turn
-  module _ (turn : HasIdleTurn m s.log) (each : (x : LoggedRun) → IsExecutionOf m starts x → IsCausal (execution x) → CoversFor m starts events p x) where
+  module _ (turn : HasIdleTurn m s.log) where
     -- an execution that goes on from the state has a shorter one that stands for it
-    shorter : (x : LoggedRun) → IsExecutionOf m starts x → IsCausal (execution x) → GoesOn x s → (y : LoggedRun) × StandsFor m starts y x × (event_count y.log < event_count x.log)
+    pub shorter : (x : LoggedRun) → IsExecutionOf m starts x → IsCausal (execution x) → GoesOn x s → (y : LoggedRun) × StandsFor m starts y x × (event_count y.log < event_count x.log)
     shorter x is causal on =
         let u = whole_thread s.log x.log on.beginning turn.number turn.thread turn.is_thread in
         let run = ended_run m starts x s.log is on.beginning turn.number turn.thread u.0 turn.is_thread u.1 in (
@@ -188,26 +184,6 @@ module _ (m : Module) (starts : List Start) (events : ℕ) (p : Progress) (progr
           stands_for m starts x is causal turn.number turn.thread u.0 u.1 run turn.first turn.idle,
           fewer m starts x is causal turn.number turn.thread u.0 u.1 run turn.first turn.idle,
         )
-
-    covers_below : (n : ℕ) (x : LoggedRun) → event_count x.log < n → IsExecutionOf m starts x → IsCausal (execution x) → CoversFor m starts events q x
-    covers_below zero x few is causal = absurd (omega (arith, few))
-    covers_below (suc n) x few is causal = by (covers_below n) (each x is causal)
-      where
-        goes : ((z : LoggedRun) → event_count z.log < n → IsExecutionOf m starts z → IsCausal (execution z) → CoversFor m starts events q z) → (y : LoggedRun) → StandsFor m starts y x
-            → Covers events q y ⊎ GoesOn y s → CoversFor m starts events q x
-        goes below y stands (inl covers) = (y, stands, covers)
-        goes below y stands (inr on) =
-            let z = shorter y stands.is_execution stands.causal on in
-            let less = z.2 in
-            let small = stands.no_more in
-            let rest = below z.0 (omega (arith, few, less, small)) z.1.is_execution z.1.causal in
-            (rest.0, stands_through m starts rest.0 y x (stands_through m starts rest.0 z.0 y rest.1 z.1) stands, rest.2)
-
-        by : ((z : LoggedRun) → event_count z.log < n → IsExecutionOf m starts z → IsCausal (execution z) → CoversFor m starts events q z) → CoversFor m starts events p x → CoversFor m starts events q x
-        by below (y, stands, covers) = goes below y stands (rest_covers y covers)
-
-    pub covers_without : (x : LoggedRun) → IsExecutionOf m starts x → IsCausal (execution x) → CoversFor m starts events q x
-    covers_without x is causal = covers_below (suc (event_count x.log)) x (omega arith) is causal
 
 -- ---- in the end
 

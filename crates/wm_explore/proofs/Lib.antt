@@ -31,3 +31,4 @@ pub mod UniformLaw
 pub mod Stemming
 pub mod UniformModules
 pub mod Exploring
+pub mod Beside

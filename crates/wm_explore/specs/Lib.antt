@@ -11,4 +11,5 @@ pub mod Asking
 pub mod Idle
 pub mod Uniform
 pub mod Search
+pub mod Subtrees
 pub mod Standard

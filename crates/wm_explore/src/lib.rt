@@ -13,6 +13,7 @@ mod law;
 mod past;
 mod search;
 mod state;
+mod subtrees;
 mod turn;
 mod uniform;
 mod values;

@@ -7,7 +7,8 @@ ghost use Rattle.wm_event.specs.declared.log.ThreadLog.{ThreadLog};
 ghost use Rattle.wm_explore.specs.Bounds.{Excuses, IsExcused};
 ghost use Rattle.wm_explore.specs.Executions.{IsFinished, ends_of};
 ghost use Rattle.wm_explore.specs.Known.{IsNoted};
-ghost use Rattle.wm_explore.specs.Search.{AddsPermitted, AddsRead, Explores, IsFirstState, IsStep, Lists};
+ghost use Rattle.wm_explore.specs.Search.{AddsPermitted, AddsRead, Explores, IsFirstState, IsProgress, IsStep, Lists};
+ghost use Rattle.wm_explore.specs.Subtrees.{Advances};
 ghost use Rattle.wm_explore.specs.States.{count_in, extended};
 ghost use Rattle.wm_explore.specs.Turns.{AreNexts, EachEndsIn, MakesNext};
 
@@ -19,9 +20,11 @@ use crate::idle::ends_idly;
 use crate::judge::{Permission, judged};
 use crate::past::{past_of, past_of_write};
 use crate::state::State;
+use crate::subtrees::explore_some;
 use crate::turn::{Turn, nexts, turn_of};
 use crate::values::values;
-use std::alloc::{AllocError, Global};
+use std::alloc::{AllocError, AllocGlobal, Global};
+use std::thread::Threads;
 use wm_event::{End, Event, EventKey, Initial, Log, Op, Start, ThreadLog};
 use wm_list::List;
 use wm_replay::{Completion, Next, complete};
@@ -40,7 +43,7 @@ pub(crate) struct Progress {
 
 impl Progress {
     /// Notes that a bound was met.
-    fn meet(&mut self, bound: Bound)
+    pub(crate) fn meet(&mut self, bound: Bound)
         ensures work { self.new.work ≡ self.old.work }
         ensures finished { self.new.finished ≡ self.old.finished }
         ensures kept { (events : ℕ) (log : List ThreadLog) → IsExcused events self.old.met log → IsExcused events self.new.met log }
@@ -78,7 +81,7 @@ fn have_same_ends(log: &[ThreadLog], other: &[ThreadLog]) -> bool
 }
 
 /// Whether an execution with the ends of a log was found.
-fn is_listed(finished: &[Finished], log: &Log) -> bool
+pub(crate) fn is_listed(finished: &[Finished], log: &Log) -> bool
     ensures listed { result ≡ true → Lists finished.now (ends_of log.now) }
     ensures not { result ≡ false → Lists finished.now (ends_of log.now) → ⊥ }
 {
@@ -312,35 +315,23 @@ fn first_state(alloc: Global, starts: &[Start]) -> Result<State, AllocError>
     })
 }
 
-/// The outcomes that the memory rules permit of a module whose threads are started so.
-///
-/// # Errors
-///
-/// Only if an allocation fails.
-pub fn explore(
+/// Extends states, the last one that is left first, and what follows from them, until nothing is left or this number of
+/// graphs has been extended. Returns how many were.
+pub(crate) fn advance(
     alloc: Global,
     module: &ValidModule,
     starts: &[Start],
     limits: Limits,
-) -> Result<Exploration, AllocError>
-    requires { length starts.now ≤ max_threads }
-    ensures { IfOk result (Explores «module».now starts.now limits.events) }
+    most: u64,
+    progress: &mut Progress,
+) -> Result<u64, AllocError>
+    requires few { length starts.now ≤ max_threads }
+    requires progress { IsProgress «module».now starts.now progress.old }
+    ensures { OnOk result (Advances «module».now starts.now limits.events progress.old progress.new) }
 {
-    let mut progress = Progress {
-        work: Vec::new(alloc),
-        finished: Vec::new(alloc),
-        met: None,
-    };
-    progress.work.push(first_state(alloc, starts)?)?;
-    for graphs in 0..limits.graphs {
+    for graphs in 0..most {
         match progress.work.pop() {
-            None => {
-                return Ok(Exploration {
-                    finished: List::from_vec(progress.finished),
-                    graphs,
-                    met: progress.met,
-                });
-            }
+            None => return Ok(graphs),
             Some(state) => {
                 let nexts = nexts(alloc, module, &state)?;
                 let nexts = nexts.as_slice();
@@ -348,14 +339,53 @@ pub fn explore(
                 if ends_idly(alloc, module, &state, nexts)? {
                     continue;
                 }
-                extend(alloc, module, limits, &state, nexts, &mut progress)?;
+                extend(alloc, module, limits, &state, nexts, progress)?;
             }
         }
+    }
+    Ok(most)
+}
+
+/// The outcomes that the memory rules permit of a module whose threads are started so, computed on as many threads as
+/// there are processors. Each execution found is causal: program order with reads-from, of any byte, has no cycle.
+///
+/// # Errors
+///
+/// Only if an allocation fails.
+pub fn explore<R: AllocGlobal + Threads + Sync>(
+    rt: &R,
+    module: &ValidModule,
+    starts: &[Start],
+    limits: Limits,
+) -> Result<Exploration, AllocError>
+    requires { length starts.now ≤ max_threads }
+    ensures { IfOk result (Explores «module».now starts.now limits.events) }
+{
+    let alloc = rt.alloc();
+    let mut progress = Progress {
+        work: Vec::new(alloc),
+        finished: Vec::new(alloc),
+        met: None,
+    };
+    progress.work.push(first_state(alloc, starts)?)?;
+    let mut graphs: u64 = 0;
+    for _ in 0..limits.graphs {
+        if progress.work.is_empty() {
+            return Ok(Exploration {
+                finished: List::from_vec(progress.finished),
+                graphs,
+                met: progress.met,
+            });
+        }
+        if graphs >= limits.graphs {
+            break;
+        }
+        graphs = graphs.saturating_add(explore_some(rt, module, starts, limits, &mut progress)?);
     }
     progress.meet(Bound::Graphs);
     Ok(Exploration {
         finished: List::from_vec(progress.finished),
-        graphs: limits.graphs,
+        graphs,
         met: progress.met,
     })
 }
