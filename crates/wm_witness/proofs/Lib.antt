@@ -5,6 +5,8 @@ pub mod RelationLaw
 pub mod ChoiceLaw
 pub mod RulesLaw
 pub mod TearingLaw
+pub mod OffersLaw
+pub mod WholeLaw
 pub mod NodeLaw
 pub mod UnknownLaw
 pub mod SplitLaw

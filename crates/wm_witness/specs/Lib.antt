@@ -6,5 +6,6 @@ pub mod Steps
 pub mod Relations
 pub mod Choice
 pub mod Tearing
+pub mod Offers
 pub mod Rules
 pub mod Unknown

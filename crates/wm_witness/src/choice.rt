@@ -264,6 +264,77 @@ pub(crate) fn isnt_from(
     !fits(start, event, byte, writer) || is_excluded(start, assumed, happens, event, byte, writer)
 }
 
+/// Whether a writer fits a byte of a read, and isn't known not to be that of it.
+fn is_possible(
+    start: &Candidate,
+    assumed: &[Assumption],
+    happens: &Relation,
+    event: &Event,
+    bytes: &[u8],
+    byte: u8,
+    writer: EventId,
+) -> bool
+    requires rows { AreRows start.now assumed.now happens.now.kind happens.now.rows.items }
+    requires kind { happens.now.kind ≡ Happens }
+    requires event { IsEventOf start.now event.now }
+    requires bytes { All (IsTearFreeByte start.now assumed.now event.now) bytes.now }
+    requires byte { byte < 8 }
+{
+    if isnt_from(start, assumed, happens, event, byte, writer) {
+        return false;
+    }
+    !would_tear(start, assumed, happens, event, bytes, writer)
+}
+
+/// How many of some ids are of events before the last one that is known to happen before a read.
+pub(crate) fn count_past(
+    happens: &Relation,
+    event: &Event,
+    thread: usize,
+    ids: &[EventId],
+) -> usize {
+    let Some(index) = happens.index(event.key()) else {
+        return 0;
+    };
+    let count = happens.count(index, thread);
+    let place = ids.partition_point(|id| match id {
+        EventId::Init => true,
+        EventId::At(key) => key.number < count,
+    });
+    place.saturating_sub(1)
+}
+
+/// Whether two writers that a byte of a read can have are found, each at a first look. Nothing rests on it.
+fn has_two(
+    start: &Candidate,
+    assumed: &[Assumption],
+    happens: &Relation,
+    event: &Event,
+    bytes: &[u8],
+    byte: u8,
+) -> bool
+    requires rows { AreRows start.now assumed.now happens.now.kind happens.now.rows.items }
+    requires kind { happens.now.kind ≡ Happens }
+    requires event { IsEventOf start.now event.now }
+    requires bytes { All (IsTearFreeByte start.now assumed.now event.now) bytes.now }
+    requires byte { byte < 8 }
+{
+    let address = u64::from(event.address) + u64::from(byte);
+    let mut is_one = is_possible(start, assumed, happens, event, bytes, byte, EventId::Init);
+    for thread in 0..start.log().threads().len() {
+        let ids = start.thread_writes_to(thread, address);
+        for place in count_past(happens, event, thread, ids)..ids.len() {
+            if is_possible(start, assumed, happens, event, bytes, byte, ids[place]) {
+                if is_one {
+                    return true;
+                }
+                is_one = true;
+            }
+        }
+    }
+    false
+}
+
 /// Which writers a byte of a read can have, beside its tear-free bytes.
 pub(crate) fn choice_of(
     alloc: Global,
@@ -282,6 +353,9 @@ pub(crate) fn choice_of(
     ensures { IfOk result (IsChoice start.now assumed.now event.now byte) }
 {
     let _log = start.log();
+    if has_two(start, assumed, happens, event, bytes, byte) {
+        return Ok(Choice::Several);
+    }
     let fit = fitting_ids(alloc, start, event, byte)?;
     let mut found = None;
     for writer in fit.as_slice() {

@@ -18,6 +18,7 @@ mod likely;
 mod links;
 mod new_split;
 mod node;
+mod offers;
 mod relation;
 mod row;
 mod rules;
@@ -29,6 +30,7 @@ mod step;
 mod tearing;
 mod turns;
 mod unknown;
+mod whole;
 
 pub use answer::Answer;
 pub use assumption::Assumption;

@@ -1,21 +1,26 @@
 //! What is known of the valid runs that keep some assumptions.
-ghost use Rattle.std.specs.Prelude.{◌<◌, All, IfOk, IfSome, IsTrue, OnOk};
+ghost use Rattle.std.specs.Prelude.{◌<◌, ℕ, All, IfOk, IfSome, IsTrue, OnOk};
+ghost use Rattle.wm_event.specs.Event.{reads};
 ghost use Rattle.wm_event.specs.Shape.{read_width};
 ghost use Rattle.wm_witness.specs.Always.{IsClosed};
-ghost use Rattle.wm_witness.specs.Choice.{IsEventOf, IsTaken};
+ghost use Rattle.wm_witness.specs.Choice.{IsChoice, IsEventOf, IsTaken};
+ghost use Rattle.wm_witness.specs.Offers.{AreOffers};
 ghost use Rattle.wm_witness.specs.Relations.{IsPair, IsSynchronized};
 ghost use Rattle.wm_witness.specs.Rules.{IsNode, IsSettled};
 ghost use Rattle.wm_witness.specs.Tearing.{IsTearFreeByte};
+ghost use Rattle.wm_witness.specs.declared.choice.Choice.TheVariants.{Only};
 ghost use Rattle.wm_witness.specs.declared.relation.Kind.TheVariants.{Stands};
 
 use crate::assumption::Assumption;
 use crate::choice::{Choice, Taken, choice_of, event_of, is_refuted};
+use crate::offers::Offers;
 use crate::relation::{Kind, Pair, Relation};
 use crate::rules::{
-    byte_assumed, not_between, not_overwritten, not_past, order_assumed, pair_assumed,
-    pair_of_taken,
+    byte_assumed, can_synchronize, not_between, not_overwritten, not_past, order_assumed,
+    pair_assumed, pair_of_taken,
 };
-use crate::tearing::{is_torn, tear_free_bytes};
+use crate::tearing::{is_tear_free, is_torn, tear_free_bytes};
+use crate::whole::{choice_of_all, is_never_from_init, reads_bytes};
 use std::alloc::{AllocError, Global};
 use wm_event::{Candidate, Event, EventId, EventKey, Range};
 
@@ -179,6 +184,14 @@ impl Node {
         Ok(())
     }
 
+    /// Whether a pair that synchronizes is the one that was added last.
+    fn is_last(&self, pair: Pair) -> bool {
+        match self.synchronized.last() {
+            Some(last) => *last == pair,
+            None => false,
+        }
+    }
+
     /// Adds the writer of a byte, and the pair that synchronizes by it.
     fn add_taken(
         &mut self,
@@ -199,7 +212,9 @@ impl Node {
             place,
         );
         self.taken.push(taken)?;
-        if let Some(pair) = pair_of_taken(start, assumed, &taken) {
+        if let Some(pair) = pair_of_taken(start, assumed, &taken)
+            && !self.is_last(pair)
+        {
             self.add_synchronized(start, assumed, pair)?;
         }
         Ok(())
@@ -396,16 +411,112 @@ impl Node {
         true
     }
 
-    /// Looks at the bytes of the event of a row whose writers aren't known. Whether one has none.
-    fn choose_event(
+    /// Adds that all bytes of the event of a row whose writers aren't known are from a writer.
+    fn take_all(
+        &mut self,
+        start: &Candidate,
+        assumed: &[Assumption],
+        index: usize,
+        event: &Event,
+        writer: EventId,
+    ) -> Result<(), AllocError>
+        requires node { IsNode start.now assumed.now self.old }
+        requires taken { (k : ℕ) → k < read_width event.now → IsChoice start.now assumed.now event.now k (Only writer) }
+        requires reads { IsTrue (reads event.now) }
+        ensures { OnOk result (IsNode start.now assumed.now self.new) }
+    {
+        for byte in 0..event.width.bytes() {
+            if self.writer(index, byte).is_none() {
+                let taken = Taken {
+                    reader: event.key(),
+                    byte,
+                    writer,
+                };
+                self.add_taken(start, assumed, taken)?;
+            }
+        }
+        Ok(())
+    }
+
+    /// Looks at the events from which a read can take all of its bytes, if it takes them from one event, and adds the only
+    /// one. Whether there is none; None if it isn't known to take them from one event.
+    fn choose_all(
+        &mut self,
+        start: &Candidate,
+        assumed: &[Assumption],
+        offers: &Offers,
+        index: usize,
+        event: &Event,
+        view: View,
+    ) -> Result<Option<bool>, AllocError>
+        requires node { IsNode start.now assumed.now self.old }
+        requires offers { AreOffers start.now.log offers.now }
+        requires event { IsEventOf start.now event.now }
+        ensures node { OnOk result (IsNode start.now assumed.now self.new) }
+        ensures closed { IfOk result (λ found. IfSome found (λ is_closed. IsTrue is_closed → IsClosed start.now assumed.now)) }
+    {
+        let _log = start.log();
+        if !reads_bytes(event) {
+            return Ok(None);
+        }
+        if !offers.is_whole(start, event) || !is_tear_free(event) {
+            return Ok(None);
+        }
+        if !is_never_from_init(start, assumed, &self.happens, event) {
+            return Ok(None);
+        }
+        if let View::Together = view {
+            return Ok(Some(false));
+        }
+        match choice_of_all(start, assumed, &self.happens, offers, event) {
+            Choice::Nothing => Ok(Some(true)),
+            Choice::Several => Ok(Some(false)),
+            Choice::Only(writer) => {
+                self.take_all(start, assumed, index, event, writer)?;
+                Ok(Some(false))
+            }
+        }
+    }
+
+    /// Looks at the bytes of a read, the event of a row, whose writers aren't known. Whether one has none.
+    fn choose_bytes(
         &mut self,
         alloc: Global,
         start: &Candidate,
         assumed: &[Assumption],
         index: usize,
+        event: &Event,
         view: View,
     ) -> Result<bool, AllocError>
         requires node { IsNode start.now assumed.now self.old }
+        requires event { IsEventOf start.now event.now }
+        requires reads { IsTrue (reads event.now) }
+        ensures node { OnOk result (IsNode start.now assumed.now self.new) }
+        ensures closed { IfOk result (λ is_closed. IsTrue is_closed → IsClosed start.now assumed.now) }
+    {
+        let bytes = self.bytes_beside(alloc, start, assumed, event, view)?;
+        for byte in 0..event.width.bytes() {
+            if self.writer(index, byte).is_none()
+                && self.choose_byte(alloc, start, assumed, event, bytes.as_slice(), byte)?
+            {
+                return Ok(true);
+            }
+        }
+        Ok(false)
+    }
+
+    /// Looks at the event of a row, if it reads and the writers of its bytes aren't all known. Whether a byte has none.
+    fn choose_event(
+        &mut self,
+        alloc: Global,
+        start: &Candidate,
+        assumed: &[Assumption],
+        offers: &Offers,
+        index: usize,
+        view: View,
+    ) -> Result<bool, AllocError>
+        requires node { IsNode start.now assumed.now self.old }
+        requires offers { AreOffers start.now.log offers.now }
         ensures node { OnOk result (IsNode start.now assumed.now self.new) }
         ensures closed { IfOk result (λ is_closed. IsTrue is_closed → IsClosed start.now assumed.now) }
     {
@@ -418,15 +529,10 @@ impl Node {
         if !event.reads() || self.is_known(event, index) {
             return Ok(false);
         }
-        let bytes = self.bytes_beside(alloc, start, assumed, event, view)?;
-        for byte in 0..event.width.bytes() {
-            if self.writer(index, byte).is_none()
-                && self.choose_byte(alloc, start, assumed, event, bytes.as_slice(), byte)?
-            {
-                return Ok(true);
-            }
+        match self.choose_all(start, assumed, offers, index, event, view)? {
+            Some(is_closed) => Ok(is_closed),
+            None => self.choose_bytes(alloc, start, assumed, index, event, view),
         }
-        Ok(false)
     }
 
     /// Looks at all bytes whose writers aren't known. Whether one has none.
@@ -435,14 +541,16 @@ impl Node {
         alloc: Global,
         start: &Candidate,
         assumed: &[Assumption],
+        offers: &Offers,
         view: View,
     ) -> Result<bool, AllocError>
         requires node { IsNode start.now assumed.now self.old }
+        requires offers { AreOffers start.now.log offers.now }
         ensures node { OnOk result (IsNode start.now assumed.now self.new) }
         ensures closed { IfOk result (λ is_closed. IsTrue is_closed → IsClosed start.now assumed.now) }
     {
         for index in 0..self.happens.rows.len() {
-            if self.choose_event(alloc, start, assumed, index, view)? {
+            if self.choose_event(alloc, start, assumed, offers, index, view)? {
                 return Ok(true);
             }
         }
@@ -582,6 +690,28 @@ impl Node {
         Ok(())
     }
 
+    /// Whether what is known of the byte at a place orders nothing more: the byte before it is of the same read and from the
+    /// same writer, or the writer synchronizes with the read. Nothing rests on it.
+    fn orders_no_more(&self, start: &Candidate, index: usize) -> bool {
+        let Some(taken) = self.taken.get(index) else {
+            return true;
+        };
+        if index > 0
+            && let Some(last) = self.taken.get(index - 1)
+            && last.reader == taken.reader
+            && last.writer == taken.writer
+        {
+            return true;
+        }
+        match taken.writer {
+            EventId::Init => false,
+            EventId::At(first) => {
+                let second = taken.reader;
+                can_synchronize(start, Pair { first, second })
+            }
+        }
+    }
+
     /// Orders the atomic writes by the writer of a byte at a place.
     fn order_by_writer(
         &mut self,
@@ -592,7 +722,7 @@ impl Node {
         requires node { IsNode start.now assumed.now self.old }
         ensures { OnOk result (IsNode start.now assumed.now self.new) }
     {
-        if index >= self.taken.len() {
+        if index >= self.taken.len() || self.orders_no_more(start, index) {
             return Ok(());
         }
         let taken = self.taken[index];
@@ -621,8 +751,10 @@ impl Node {
 pub(crate) fn settle(
     alloc: Global,
     start: &Candidate,
+    offers: &Offers,
     assumed: &[Assumption],
 ) -> Result<Option<Node>, AllocError>
+    requires { AreOffers start.now.log offers.now }
     ensures { IfOk result (IsSettled start.now assumed.now) }
 {
     let mut node = Node::of(alloc, start, assumed)?;
@@ -632,11 +764,11 @@ pub(crate) fn settle(
             return Ok(None);
         }
         let size = node.size();
-        if node.choose(alloc, start, assumed, View::Alone)? {
+        if node.choose(alloc, start, assumed, offers, View::Alone)? {
             return Ok(None);
         }
         node.order(start, assumed)?;
-        if node.size() == size && node.choose(alloc, start, assumed, View::Together)? {
+        if node.size() == size && node.choose(alloc, start, assumed, offers, View::Together)? {
             return Ok(None);
         }
         if node.size() == size {

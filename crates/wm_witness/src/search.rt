@@ -1,10 +1,12 @@
 //! The search for a witness, over a stack of alternatives.
 ghost use Rattle.std.specs.Prelude.{[], IfOk};
 ghost use Rattle.wm_witness.specs.Answer.{FoundIsValid, FoundKeeps, GaveUpAfter, NoneIsNever, NoneKeeps};
+ghost use Rattle.wm_witness.specs.Offers.{AreOffers};
 
 use crate::answer::Answer;
 use crate::assumption::Assumption;
 use crate::guessed::valid_guess;
+use crate::offers::Offers;
 use crate::stack::Stack;
 use crate::step::{Step, next_step};
 use std::alloc::{AllocError, Global};
@@ -15,16 +17,18 @@ use wm_event::Candidate;
 fn by_steps(
     alloc: Global,
     start: &Candidate,
+    offers: &Offers,
     wanted: &[Assumption],
     nodes: u64,
 ) -> Result<Answer, AllocError>
+    requires { AreOffers start.now.log offers.now }
     ensures found { IfOk result (FoundKeeps start.now wanted.now) }
     ensures none { IfOk result (NoneKeeps start.now wanted.now) }
     ensures gave_up { IfOk result (GaveUpAfter start.now wanted.now nodes) }
 {
     let mut stack = Stack::new(alloc, wanted)?;
     for begun in 0..nodes {
-        match next_step(alloc, start, wanted, stack.assumed.as_slice())? {
+        match next_step(alloc, start, offers, wanted, stack.assumed.as_slice())? {
             Step::Found(witness) => return Ok(Answer::Found(witness)),
             Step::Split(last, other) => stack.split(last, other)?,
             Step::Stays => return Ok(Answer::GaveUp),
@@ -58,7 +62,8 @@ pub fn find_keeping(
     if let Some(witness) = valid_guess(alloc, start, wanted)? {
         return Ok(Answer::Found(witness));
     }
-    by_steps(alloc, start, wanted, nodes)
+    let offers = Offers::of(alloc, start)?;
+    by_steps(alloc, start, &offers, wanted, nodes)
 }
 
 /// Whether any writers and any order make the log of a candidate valid over its initial memory: the same as

@@ -1,5 +1,6 @@
 //! One step of the search.
 ghost use Rattle.std.specs.Prelude.{IfOk, IfSome, List};
+ghost use Rattle.wm_witness.specs.Offers.{AreOffers};
 ghost use Rattle.wm_witness.specs.Rules.{IsNode};
 ghost use Rattle.wm_witness.specs.Steps.{IsSameLog, IsSplit, IsStep};
 ghost use Rattle.wm_witness.specs.declared.assumption.Assumption.{Assumption as Assumed};
@@ -10,6 +11,7 @@ use crate::grounds::grounds_of;
 use crate::leaf::{Bytes, likely_writers};
 use crate::new_split::{Split, any_new_split, new_split};
 use crate::node::{Node, settle};
+use crate::offers::Offers;
 use crate::schedule::Schedule;
 use crate::split::is_open;
 use std::alloc::{AllocError, Global};
@@ -284,12 +286,14 @@ fn judged_with(
 pub(crate) fn next_step(
     alloc: Global,
     start: &Candidate,
+    offers: &Offers,
     wanted: &[Assumption],
     assumed: &[Assumption],
 ) -> Result<Step, AllocError>
+    requires { AreOffers start.now.log offers.now }
     ensures { IfOk result (IsStep start.now wanted.now assumed.now) }
 {
-    let Some(node) = settle(alloc, start, assumed)? else {
+    let Some(node) = settle(alloc, start, offers, assumed)? else {
         return Ok(Step::Closed);
     };
     let writers = all_writers(alloc, start, assumed, &node)?;

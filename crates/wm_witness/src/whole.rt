@@ -1,0 +1,102 @@
+//! From which event a tear-free read takes all of its bytes.
+ghost use Rattle.std.specs.Prelude.{◌≡◌, ◌<◌, ℕ, IsTrue};
+ghost use Rattle.wm_event.specs.Event.{reads};
+ghost use Rattle.wm_event.specs.Rules.{IsTearFree};
+ghost use Rattle.wm_event.specs.Shape.{read_width};
+ghost use Rattle.wm_witness.specs.Choice.{IsChoice, IsEventOf, IsNeverFromInit, IsOutOfRead};
+ghost use Rattle.wm_witness.specs.Offers.{AreOffers, IsWhole};
+ghost use Rattle.wm_witness.specs.Relations.{AreRows};
+ghost use Rattle.wm_witness.specs.declared.relation.Kind.TheVariants.{Happens};
+
+use crate::assumption::Assumption;
+use crate::choice::{Choice, isnt_from};
+use crate::offers::Offers;
+use crate::relation::Relation;
+use wm_event::{Candidate, Event, EventId};
+
+/// Whether an event reads some byte.
+pub(crate) fn reads_bytes(event: &Event) -> bool
+    ensures { IsTrue result → 0 < read_width event.now }
+{
+    if !event.reads() {
+        return false;
+    }
+    event.width.bytes() > 0
+}
+
+/// Whether no byte of a read is from Init.
+pub(crate) fn is_never_from_init(
+    start: &Candidate,
+    assumed: &[Assumption],
+    happens: &Relation,
+    event: &Event,
+) -> bool
+    requires rows { AreRows start.now assumed.now happens.now.kind happens.now.rows.items }
+    requires kind { happens.now.kind ≡ Happens }
+    requires event { IsEventOf start.now event.now }
+    ensures { IsTrue result → IsNeverFromInit start.now assumed.now event.now }
+{
+    for byte in 0..event.width.bytes() {
+        if !isnt_from(start, assumed, happens, event, byte, EventId::Init) {
+            return false;
+        }
+    }
+    true
+}
+
+/// Whether some byte of a read isn't from a writer.
+fn is_out(
+    start: &Candidate,
+    assumed: &[Assumption],
+    happens: &Relation,
+    event: &Event,
+    writer: EventId,
+) -> bool
+    requires rows { AreRows start.now assumed.now happens.now.kind happens.now.rows.items }
+    requires kind { happens.now.kind ≡ Happens }
+    requires event { IsEventOf start.now event.now }
+    requires reads { IsTrue (reads event.now) }
+    ensures { IsTrue result → IsOutOfRead start.now assumed.now event.now writer }
+{
+    for byte in 0..event.width.bytes() {
+        if isnt_from(start, assumed, happens, event, byte, writer) {
+            return true;
+        }
+    }
+    false
+}
+
+/// From which event a tear-free read takes all of its bytes, if its range is written only as a whole and none is from Init.
+pub(crate) fn choice_of_all(
+    start: &Candidate,
+    assumed: &[Assumption],
+    happens: &Relation,
+    offers: &Offers,
+    event: &Event,
+) -> Choice
+    requires rows { AreRows start.now assumed.now happens.now.kind happens.now.rows.items }
+    requires kind { happens.now.kind ≡ Happens }
+    requires offers { AreOffers start.now.log offers.now }
+    requires event { IsEventOf start.now event.now }
+    requires free { IsTearFree event.now }
+    requires whole { IsWhole start.now.log event.now }
+    requires init { IsNeverFromInit start.now assumed.now event.now }
+    ensures { (k : ℕ) → k < read_width event.now → IsChoice start.now assumed.now event.now k result }
+{
+    let _log = start.log();
+    let mut found = None;
+    for offer in offers.of_read(start, event) {
+        let writer = EventId::At(offer.writer);
+        if is_out(start, assumed, happens, event, writer) {
+            continue;
+        }
+        if found.is_some() {
+            return Choice::Several;
+        }
+        found = Some(writer);
+    }
+    match found {
+        None => Choice::Nothing,
+        Some(writer) => Choice::Only(writer),
+    }
+}
