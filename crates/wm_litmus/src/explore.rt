@@ -7,8 +7,9 @@ ghost use Rattle.wm_litmus.specs.Explore.{AnswersExplore, AreRows, Covers, Explo
 
 use crate::answer::Answer;
 use crate::outcomes::outcome_of;
-use std::alloc::{AllocError, Global};
+use std::alloc::{AllocError, AllocGlobal, Global};
 use std::fmt;
+use std::thread::Threads;
 use wm_check::read_module;
 use wm_command::Exploration as Words;
 use wm_explore::{Bound, Exploration, Finished, Limits, explore, is_uniform};
@@ -190,14 +191,15 @@ fn listed(
 }
 
 /// The answer to an exploration of a module.
-fn explored(
-    alloc: Global,
+fn explored<R: AllocGlobal + Threads + Sync>(
+    rt: &R,
     module: &ValidModule,
     listing: Listing,
     words: &Words,
 ) -> Result<Answer, AllocError>
     ensures { IfOk result (ExploresOver listing «module».now words.now) }
 {
+    let alloc = rt.alloc();
     // A script without turns is refused as the threads are that it would start.
     match drive(alloc, module, &words.plan, &[]) {
         Err(RunFault::OutOfMemory) => return Err(AllocError),
@@ -209,7 +211,7 @@ fn explored(
         graphs: MAX_GRAPHS,
         nodes: MAX_NODES,
     };
-    let exploration = explore(alloc, module, words.plan.starts.as_slice(), limits)?;
+    let exploration = explore(rt, module, words.plan.starts.as_slice(), limits)?;
     listed(alloc, listing, &exploration, coverage_of(module))
 }
 
@@ -218,16 +220,16 @@ fn explored(
 /// # Errors
 ///
 /// Only if an allocation fails.
-pub(crate) fn explore_answer(
-    alloc: Global,
+pub(crate) fn explore_answer<R: AllocGlobal + Threads + Sync>(
+    rt: &R,
     module_bytes: &[u8],
     listing: Listing,
     words: &Words,
 ) -> Result<Answer, AllocError>
     ensures { IfOk result (Gives (AnswersExplore listing module_bytes.now words.now)) }
 {
-    match read_module(alloc, module_bytes) {
-        Ok(module) => explored(alloc, &module, listing, words),
-        Err(unread) => Answer::refused_module(alloc, unread),
+    match read_module(rt.alloc(), module_bytes) {
+        Ok(module) => explored(rt, &module, listing, words),
+        Err(unread) => Answer::refused_module(rt.alloc(), unread),
     }
 }

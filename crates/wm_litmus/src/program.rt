@@ -308,7 +308,7 @@ fn rounds_of<'a, R: AllocGlobal + Threads + Wait + Sync, F: Files>(
 }
 
 /// The answer to an exploration of the module `name`.
-fn exploration_of<'a, R: AllocGlobal, F: Files>(
+fn exploration_of<'a, R: AllocGlobal + Threads + Sync, F: Files>(
     rt: &R,
     files: &mut F,
     name: &'a str,
@@ -324,7 +324,7 @@ fn exploration_of<'a, R: AllocGlobal, F: Files>(
     match read_exploration(rt.alloc(), events, starts) {
         Ok(exploration) => {
             let bytes = read_file(files, name, MAX_MODULE_BYTES)?;
-            let answer = explore_answer(rt.alloc(), bytes.as_slice(), listing, &exploration)?;
+            let answer = explore_answer(rt, bytes.as_slice(), listing, &exploration)?;
             Ok(answer)
         }
         Err(fault) => {

@@ -10,23 +10,23 @@ use Rattle.wm_litmus.proofs.Covering.{finds_covered}
 use Rattle.wm_litmus.proofs.explore.explored.Goals as goal
 
 pub explore-requires : goal.explore-requires
-explore-requires c =
+explore-requires g c =
     subst (λ starts. length starts ≤ max_threads) (sym c.as_slice.ensures) c.in-Ok.ensures.planned.threads.few
 
 pub listed-requires : goal.listed-requires
-listed-requires c = λ k d within.
+listed-requires g c = λ k d within.
     let f = get_or c.in_ok-exploration.exploration.finished k d in
     let own = c.in-Ok.ensures.own in
     fits_log (record { log = f.log; witness = f.witness; initial = own.initial }) (c.in_ok-exploration.ensures.found k d within own.initial own.is_init).0.shaped
 
 pub returns-in-Err : goal.returns-in-Err
-returns-in-Err c =
+returns-in-Err g c =
     let other : c.in-Err.fault ≢ OutOfMemory = search rules in
     IfOk-weaker c.refused_run.result _ _
     (λ answer prints module_bytes modules. refused c.args.module.now c.in-Err.fault modules other c.in-Err.ensures.refused prints.status_is prints.text_is) c.refused_run.ensures
 
 pub returns : goal.returns
-returns c =
+returns g c =
     let m = c.args.module.now in
     let words = c.args.words.now in
     let e = c.in_ok-exploration.exploration in
