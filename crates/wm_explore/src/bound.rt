@@ -8,7 +8,7 @@ ghost use Rattle.wm_explore.specs.Bounds.{Excuses};
 pub struct Limits {
     /// The most events of a thread, at most 1,024.
     pub events: u32,
-    /// The most graphs that are extended.
+    /// Once this number of graphs has been extended, no further states are shared out.
     pub graphs: u64,
     /// The most nodes of a search for a witness.
     pub nodes: u64,
@@ -17,7 +17,7 @@ pub struct Limits {
 /// Why an exploration is not complete. Of several reasons the first one here is given, and of several threads the least.
 #[derive(Clone, Copy, PartialEq, Eq)]
 pub enum Bound {
-    /// As many graphs were extended as may be.
+    /// States were left when as many graphs had been extended as may be.
     Graphs,
     /// A search for a witness of a finished execution gave up.
     Nodes,

@@ -3,7 +3,7 @@ use crate::bound::Bound;
 use wm_event::{Log, Witness};
 use wm_list::List;
 
-/// An execution in which each thread has ended.
+/// A causal execution in which each thread has ended: program order with reads-from, of any byte, has no cycle.
 #[derive(Drop)]
 pub struct Finished {
     /// What the threads did, with their ends.

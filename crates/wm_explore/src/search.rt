@@ -347,7 +347,7 @@ pub(crate) fn advance(
 }
 
 /// The outcomes that the memory rules permit of a module whose threads are started so, computed on as many threads as
-/// there are processors. Each execution found is causal: program order with reads-from, of any byte, has no cycle.
+/// there are processors. The answer doesn't depend on how many there are.
 ///
 /// # Errors
 ///
