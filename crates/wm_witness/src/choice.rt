@@ -287,7 +287,12 @@ fn is_possible(
 }
 
 /// How many of some ids are of events before the last one that is known to happen before a read.
-fn count_past(happens: &Relation, event: &Event, thread: usize, ids: &[EventId]) -> usize {
+pub(crate) fn count_past(
+    happens: &Relation,
+    event: &Event,
+    thread: usize,
+    ids: &[EventId],
+) -> usize {
     let Some(index) = happens.index(event.key()) else {
         return 0;
     };
