@@ -1,5 +1,5 @@
 -- What is covered where states are explored side by side.
-use Rattle.std.proofs.Common.{◌≡◌, ℕ, zero, suc, ◌+◌, ◌<◌, List, [], ◌∷◌, ◌++◌, length, get_or, inl, inr, Option, Some, None, Result, Ok, IfOk, map, refl, sym, ap, subst, ◌∙◌, arith}
+use Rattle.std.proofs.Common.{◌≡◌, ℕ, zero, suc, ◌+◌, ◌<◌, List, [], ◌∷◌, ◌++◌, length, inl, inr, Option, Some, None, Result, Ok, IfOk, map, refl, sym, ap, subst, ◌∙◌, arith}
 use Rattle.std.specs.Prelude.{◌≢◌, ◌⊎◌, All, slice_get}
 use Rattle.std.specs.List.{AllZip}
 use Rattle.std.proofs.lemmas.Option.{none-some, same_Some}
@@ -9,7 +9,7 @@ use Rattle.wm_event.specs.Shape.{event_count}
 use Rattle.wm_event.specs.declared.log.End.{End}
 use Rattle.wm_event.specs.declared.log.Start.{Start}
 use Rattle.wm_event.specs.declared.log.ThreadLog.{ThreadLog}
-use Rattle.wm_explore.specs.Bounds.{Excuses, IsExcused}
+use Rattle.wm_explore.specs.Bounds.{IsExcused}
 use Rattle.wm_explore.specs.Executions.{IsCausal, IsExecutionOf, ends_of}
 use Rattle.wm_explore.specs.Idle.{HasIdleTurn, StandsFor}
 use Rattle.wm_explore.specs.Known.{IsNoted}

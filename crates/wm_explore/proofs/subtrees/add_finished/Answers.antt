@@ -1,4 +1,4 @@
-use Rattle.std.proofs.Common.{◌≡◌, ◌++◌, ◌∷◌, [], refl, sym, ap, subst, append_assoc, ◌∙◌}
+use Rattle.std.proofs.Common.{◌++◌, ◌∷◌, [], refl, sym, ap, subst, append_assoc, ◌∙◌}
 use Rattle.wm_explore.specs.Executions.{ends_of}
 use Rattle.wm_explore.specs.Search.{Lists}
 use Rattle.wm_explore.proofs.Beside.{takes_listed, takes_new}

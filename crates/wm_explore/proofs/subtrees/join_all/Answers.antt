@@ -1,4 +1,4 @@
-use Rattle.std.proofs.Common.{◌≡◌, ◌++◌, ◌∷◌, [], sym, ap, append_assoc, ◌∙◌}
+use Rattle.std.proofs.Common.{◌++◌, ◌∷◌, [], sym, ap, append_assoc, ◌∙◌}
 use Rattle.wm_explore.proofs.Beside.{joins_more}
 use Rattle.wm_explore.proofs.subtrees.join_all.Goals as goal
 

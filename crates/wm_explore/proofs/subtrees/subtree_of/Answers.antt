@@ -1,5 +1,4 @@
-use Rattle.std.proofs.Common.{◌≡◌, ◌∷◌, ◌++◌, [], None, ap, ◌∙◌}
-use Rattle.wm_explore.specs.declared.search.Progress.{Progress}
+use Rattle.std.proofs.Common.{◌∷◌, ◌++◌, [], None, ap, ◌∙◌}
 use Rattle.wm_explore.proofs.Beside.{alone, comes_of}
 use Rattle.wm_explore.proofs.subtrees.subtree_of.Goals as goal
 

@@ -1,4 +1,4 @@
-use Rattle.std.proofs.Common.{refl, sym, ap, subst, ◌∙◌}
+use Rattle.std.proofs.Common.{sym, ap, subst, ◌∙◌}
 use Rattle.wm_explore.specs.Bounds.{IsExcused}
 use Rattle.wm_explore.specs.Subtrees.{TakesIn}
 use Rattle.wm_explore.proofs.Beside.{excused_too, joins}
