@@ -101,8 +101,8 @@ module _ (starts : List Start) (s : State) (first : IsFirstState starts s) where
     noted_nothing = record {
       nexts = λ k t next at_t at_next. absurd (none-some (Some next) (ap (λ ns. slice_get ns k) (sym first.known) ∙ at_next));
       past = λ initial is. record {
-        count = ap length first.clocks ∙ ap length (sym first.arrived);
-        past = λ x has i b c at at_clock. absurd (none-some b (ap (λ ks. slice_get ks i) (sym first.arrived) ∙ at));
+        count = ap length first.pasts ∙ ap length (sym first.arrived);
+        past = λ x has i b c at at_past. absurd (none-some b (ap (λ ks. slice_get ks i) (sym first.arrived) ∙ at));
       };
     }
 

@@ -1,24 +1,27 @@
 -- What is found of the next event of a state holds in each execution that has it.
-use Rattle.std.proofs.Common.{◌≡◌, ℕ, ◌+◌, ◌<◌, ◌≤◌, true, List, [], ◌∷◌, ◌++◌, inl, inr, None, Some, IsSome, refl, sym, ap, subst, ◌∙◌, arith}
-use Rattle.std.specs.Prelude.{◌⊎◌, option_and_then, slice_get, if◌then◌else◌}
+use Rattle.std.proofs.Common.{◌≡◌, ℕ, ◌+◌, ◌<◌, ◌≤◌, true, List, [], ◌∷◌, ◌++◌, inl, inr, Option, None, Some, IsSome, IsTrue, refl, sym, ap, subst, ◌∙◌, arith}
+use Rattle.std.specs.Prelude.{◌≢◌, ◌⊎◌, option_and_then, slice_get, if◌then◌else◌}
 use Rattle.std.proofs.lemmas.Bool.{cases_lt}
-use Rattle.std.proofs.lemmas.Option.{slice_get_within}
+use Rattle.std.proofs.lemmas.Option.{same_Some, slice_get_within}
 use Rattle.wm_access.specs.AccessWidth.{bytes_of}
 use Rattle.wm_access.specs.declared.AccessWidth.{AccessWidth}
 use Rattle.wm_access.specs.declared.AccessWidth.TheVariants.{One, Two, Four, Eight}
-use Rattle.wm_event.specs.Event.{byte_written, key_of, reads}
-use Rattle.wm_event.specs.Execution.{Execution, ReadsFrom, byte_by, event_at}
+use Rattle.wm_event.specs.Event.{byte_written, is_atomic, key_of, range_of, reads}
+use Rattle.wm_event.specs.Execution.{Execution, ReadsFrom, byte_by, event_at, place}
 use Rattle.wm_event.specs.HappensBefore.{Chain, HappensBefore}
 use Rattle.wm_event.specs.Log.{event_in}
 use Rattle.wm_event.specs.LoggedRun.{LoggedRun, execution}
 use Rattle.wm_event.specs.Rules.{IsTearFreeLike}
+use Rattle.wm_event.specs.Rules.Overtakes.{read_past}
+use Rattle.wm_event.proofs.PlaceLemmas.{position_listed}
 use Rattle.wm_event.specs.declared.event.Event.{Event}
 use Rattle.wm_event.specs.declared.event.EventId.{EventId}
 use Rattle.wm_event.specs.declared.event.EventId.TheVariants.{Init, At}
 use Rattle.wm_event.specs.declared.event.EventKey.{EventKey}
 use Rattle.wm_explore.specs.Clocks.{Counts}
-use Rattle.wm_explore.specs.Past.{AreApart, CannotBegin, CannotGive, FindsCommon, Gains, Hides, IsAfter, IsBefore, IsLike, IsPast, IsSource, IsThreadPast, KnowsPast, TakesNext, left_by}
+use Rattle.wm_explore.specs.Past.{AreApart, AreGained, CannotBegin, CannotGive, FindsCommon, Gains, Hides, IsAfter, IsBefore, IsFrom, IsLike, IsOnly, IsPast, IsSource, IsTaken, IsThreadPast, KnowsPast, TakesNext, WouldSynchronize, left_by}
 use Rattle.wm_explore.specs.declared.clock.Clock.{Clock}
+use Rattle.wm_explore.specs.declared.past.Past.{Past}
 use Rattle.wm_explore.specs.declared.state.State.{State}
 use Rattle.wm_explore.proofs.Beginnings.{some_of}
 use Rattle.wm_explore.proofs.Turning.{item_within}
@@ -52,7 +55,7 @@ module _ (initial : List ℕ) (s : State) (e : Event) (knows : KnowsPast initial
 
   pub thread_past : (c : Clock) → IsThreadPast s b c → IsBefore x b c
   thread_past c (inl none) a counts there = absurd (none a counts)
-  thread_past c (inr is) a counts there = by (knows.past x takes.has is.place is.key c is.at is.at_clock a counts there)
+  thread_past c (inr is) a counts there = by ((knows.past x takes.has is.place is.key is.past is.at is.at_past).0 a (subst (λ d. Counts d a) (sym is.is) counts) there)
     where
       edge : HappensBefore (execution x) (At is.key) (At b)
       edge = ([], inl (record { first = arrived_there is.place is.key is.at; second = next_there; same_thread = is.same; earlier = is.less }))
@@ -82,7 +85,7 @@ module _ (initial : List ℕ) (s : State) (e : Event) (knows : KnowsPast initial
 
         after : (w : EventId) → IsSource s w → IsAfter s place h.key w → HappensBefore (execution x) w (At h.key)
         after Init src is = ([], arrived_there place h.key h.at)
-        after (At u) src is = by (knows.past x takes.has place h.key is.1 h.at is.2 u is.3 (arrived_there src.0 u src.2))
+        after (At u) src is = by ((knows.past x takes.has place h.key is.1 h.at is.2).0 u is.3 (arrived_there src.0 u src.2))
           where
             by : (u ≡ h.key) ⊎ HappensBefore (execution x) (At u) (At h.key) → HappensBefore (execution x) (At u) (At h.key)
             by (inl same) = absurd (is.0 same)
@@ -98,6 +101,69 @@ module _ (initial : List ℕ) (s : State) (e : Event) (knows : KnowsPast initial
     apart : (w u : EventId) (k : ℕ) → AreApart s.log e w u → ReadsFrom (execution x) b 0 w → ReadsFrom (execution x) b k u → ⊥
     apart w u k are first second = are.other (takes.has.valid.keeps_no_tearing b e takes.next are.free u w ((k, second), like u are.second) ((0, first), like w are.first))
 
+    -- ---- two updates don't take from one source
+
+    taken : (w : EventId) → ReadsFrom (execution x) b 0 w → IsTaken s e w → ⊥
+    taken w from t = by (cases_lt (place (execution x) (At u)) (place (execution x) (At b)))
+      where
+        u : EventKey
+        u = t.rival.key
+
+        f : Event
+        f = t.rival.like.event
+
+        at_u : event_in x.log u ≡ Some f
+        at_u = takes.has.events u f t.rival.like.at_event
+
+        from_u : ReadsFrom (execution x) u 0 w
+        from_u = subst (IsFrom x u) t.rival.from (knows.past x takes.has t.place u t.rival.past t.rival.at t.rival.at_past).1
+
+        source_before : (r : EventKey) (g : Event) → event_in x.log r ≡ Some g → IsTrue (is_atomic g) → range_of g ≡ range_of e → (v : EventId) → WouldSynchronize s.log e v → ReadsFrom (execution x) r 0 v
+            → HappensBefore (execution x) v (At r)
+        source_before r g at atomic same Init is read = ([], subst (λ o. IsSome o) (sym at) refl)
+        source_before r g at atomic same (At v) is read = (
+          [],
+          inr (record {
+            writer = is.0;
+            reader = g;
+            is_writer = takes.has.events v is.0 is.1;
+            is_reader = at;
+            writer_atomic = is.2;
+            reader_atomic = atomic;
+            ranges = is.3 ∙ sym same;
+            reads = (0, read);
+          }),
+        )
+
+        before_u : HappensBefore (execution x) w (At u)
+        before_u = source_before u f at_u t.rival.like.atomic t.rival.like.same w t.source from_u
+
+        before_b : HappensBefore (execution x) w (At b)
+        before_b = source_before b e takes.next t.atomic refl w t.source from
+
+        listed : (key : EventKey) → IsSome (event_in x.log key) → slice_get x.witness.order ((execution x).place_of key) ≡ Some key
+        listed key there =
+            let l = takes.has.shaped.order.listed key there in
+            subst (λ n. slice_get x.witness.order n ≡ Some key) (sym (position_listed x.log x.witness.order takes.has.shaped.order l.0 key l.1)) l.1
+
+        apart_from : (execution x).place_of u ≡ (execution x).place_of b → ⊥
+        apart_from same =
+            let here = listed u (subst (λ o. IsSome o) (sym at_u) refl) in
+            let one : u ≡ b = same_Some u b (sym here ∙ ap (slice_get x.witness.order) same ∙ listed b next_there) in
+            takes.new (subst (λ key. IsSome (event_in s.log key)) one (subst (λ o. IsSome o) (sym t.rival.like.at_event) refl))
+
+        by_second : (place (execution x) (At b) < place (execution x) (At u)) ⊎ (place (execution x) (At u) ≤ place (execution x) (At b)) → place (execution x) (At b) ≤ place (execution x) (At u) → ⊥
+        by_second (inl less) le =
+            takes.has.valid.keeps_sequential_consistency u f 0 w at_u from_u (At b) 3 (e, takes.next, t.atomic, t.writing) (takes.has.valid.keeps_order w (At b) before_b) less
+            (read_past refl t.rival.like.atomic before_u before_b (e, takes.next, sym t.rival.like.same))
+        by_second (inr most) le = apart_from (omega (arith, most, le))
+
+        by : (place (execution x) (At u) < place (execution x) (At b)) ⊎ (place (execution x) (At b) ≤ place (execution x) (At u)) → ⊥
+        by (inl less) =
+            takes.has.valid.keeps_sequential_consistency b e 0 w takes.next from (At u) 3 (f, at_u, t.rival.like.atomic, t.rival.like.writing) (takes.has.valid.keeps_order w (At u) before_u) less
+            (read_past refl t.atomic before_b before_u (f, at_u, t.rival.like.same))
+        by (inr most) = by_second (cases_lt (place (execution x) (At b)) (place (execution x) (At u))) most
+
     module _ (reading : reads e ≡ true) where
       writer : (k : ℕ) → k < bytes_of e.width → (u : EventId) × ReadsFrom (execution x) b k u
       writer k lt =
@@ -106,7 +172,8 @@ module _ (initial : List ℕ) (s : State) (e : Event) (knows : KnowsPast initial
 
       not_begin : (w : EventId) → ReadsFrom (execution x) b 0 w → CannotBegin initial s before e w → ⊥
       not_begin w from (inl c) = cannot 0 w from c
-      not_begin w from (inr (k, lt, none)) = by (none u.0 (source k u.0 u.1))
+      not_begin w from (inr (inl t)) = taken w from t
+      not_begin w from (inr (inr (k, lt, none))) = by (none u.0 (source k u.0 u.1))
         where
           u : (v : EventId) × ReadsFrom (execution x) b k v
           u = writer k lt
@@ -122,11 +189,22 @@ module _ (initial : List ℕ) (s : State) (e : Event) (knows : KnowsPast initial
       pub finds_none : FindsCommon initial s before e None → ⊥
       finds_none none = not_begin first.0 first.1 (none first.0 (source 0 first.0 first.1))
 
-      pub common_before : (c : Clock) → FindsCommon initial s before e (Some c) → IsBefore x b c
-      common_before c finds a counts there = by (finds first.0 (source 0 first.0 first.1))
+      pub common_from : (p : Past) → FindsCommon initial s before e (Some p) → IsFrom x b p.source
+      common_from p finds = by (finds first.0 (source 0 first.0 first.1))
+        where
+          given : (o : Option EventId) → IsOnly first.0 o → IsFrom x b o
+          given None only = tt
+          given (Some w) only = subst (ReadsFrom (execution x) b 0) only first.1
+
+          by : CannotBegin initial s before e first.0 ⊎ (AreGained s e first.0 p.clock × IsOnly first.0 p.source) → IsFrom x b p.source
+          by (inl not) = absurd (not_begin first.0 first.1 not)
+          by (inr is) = given p.source is.1
+
+      pub common_before : (p : Past) → FindsCommon initial s before e (Some p) → IsBefore x b p.clock
+      common_before p finds a counts there = by (finds first.0 (source 0 first.0 first.1))
         where
           gained : (place : ℕ) (key : EventKey) → first.0 ≡ At key → slice_get s.arrived place ≡ Some key → Gains s e place key a → HappensBefore (execution x) (At a) (At b)
-          gained place key is at g = through (knows.past x takes.has place key g.clock at g.at_clock a g.counted there)
+          gained place key is at g = through ((knows.past x takes.has place key g.past at g.at_past).0 a g.counted there)
             where
               edge : HappensBefore (execution x) (At key) (At b)
               edge = (
@@ -147,9 +225,9 @@ module _ (initial : List ℕ) (s : State) (e : Event) (knows : KnowsPast initial
               through (inl same) = subst (λ k. HappensBefore (execution x) (At k) (At b)) (sym same) edge
               through (inr hb) = before_join (execution x) (At a) (At key) (At b) hb edge
 
-          by : CannotBegin initial s before e first.0 ⊎ ((a : EventKey) → Counts c a → (place : ℕ) × (key : EventKey) × (first.0 ≡ At key) × (slice_get s.arrived place ≡ Some key) × Gains s e place key a) → HappensBefore (execution x) (At a) (At b)
+          by : CannotBegin initial s before e first.0 ⊎ (AreGained s e first.0 p.clock × IsOnly first.0 p.source) → HappensBefore (execution x) (At a) (At b)
           by (inl not) = absurd (not_begin first.0 first.1 not)
-          by (inr gains) = let g = gains a counts in gained g.0 g.1 g.2 g.3 g.4
+          by (inr is) = let g = is.0 a counts in gained g.0 g.1 g.2 g.3 g.4
 
   -- ---- with the event itself
 

@@ -1,7 +1,7 @@
--- The clocks of a state with one more event, and of one like it.
-use Rattle.std.proofs.Common.{◌≡◌, ℕ, ◌+◌, ◌≤◌, List, [], ◌∷◌, ◌++◌, length, inl, inr, None, Some, IsSome, refl, sym, ap, subst, ◌∙◌, arith}
+-- What surely holds in a state with one more event, and in one like it.
+use Rattle.std.proofs.Common.{◌≡◌, ℕ, ◌+◌, ◌<◌, ◌≤◌, List, [], ◌∷◌, ◌++◌, length, inl, inr, None, Some, IsSome, refl, sym, ap, subst, ◌∙◌, arith}
 use Rattle.std.specs.Prelude.{◌≢◌, ◌⊎◌, slice_get}
-use Rattle.std.proofs.lemmas.Bool.{cases_eq}
+use Rattle.std.proofs.lemmas.Bool.{cases_eq, ltb-true}
 use Rattle.std.proofs.lemmas.List.{length-append}
 use Rattle.std.proofs.lemmas.Option.{same_Some, slice_get_within}
 use Rattle.wm_ast.specs.declared.module.Module.{Module}
@@ -15,11 +15,11 @@ use Rattle.wm_event.specs.declared.event.EventKey.{EventKey}
 use Rattle.wm_event.specs.declared.log.Start.{Start}
 use Rattle.wm_event.specs.declared.log.ThreadLog.{ThreadLog}
 use Rattle.wm_explore.specs.Executions.{IsExecutionOf}
-use Rattle.wm_explore.specs.Past.{FindsPast, HasState, IsPast, KnowsPast, TakesNext}
-use Rattle.wm_explore.specs.States.{GoesOn, HasArrived, IsChild, IsState, with_last}
-use Rattle.wm_explore.specs.declared.clock.Clock.{Clock}
+use Rattle.wm_explore.specs.Past.{FindsPast, HasState, IsPastOf, KnowsPast, TakesNext}
+use Rattle.wm_explore.specs.States.{GoesOn, HasArrived, IsChild, IsState, count_in, with_last}
+use Rattle.wm_explore.specs.declared.past.Past.{Past}
 use Rattle.wm_explore.specs.declared.state.State.{State}
-use Rattle.wm_explore.proofs.Beginnings.{event_at, kept_there, same_event, there_kept, thread_of_event}
+use Rattle.wm_explore.proofs.Beginnings.{count_at, event_at, kept_there, same_event, there_kept, thread_of_event}
 use Rattle.wm_explore.proofs.Children.{next_key}
 use Rattle.wm_explore.proofs.Lists.{at_pushed, extended_at, extended_other, kept_pushed, last_pushed}
 
@@ -47,11 +47,11 @@ has_state m starts initial s x fine is memory on = record {
         let writer = fine.listed w (kept_there s.log w (on.writers r k w there kept from)) in
         (writer.0, on.back r w k i writer.0 there from at writer.1, writer.1)
 
--- two states that differ in neither log nor arrivals nor clocks
-pub knows_too : (initial : List ℕ) (s t : State) → t.log ≡ s.log → t.arrived ≡ s.arrived → t.clocks ≡ s.clocks → KnowsPast initial s → KnowsPast initial t
-knows_too initial s t same_log same_arrived same_clocks knows = record {
-  count = ap length same_clocks ∙ knows.count ∙ ap length (sym same_arrived);
-  past = λ x has i b c at at_clock. knows.past x (has_too x has) i b c (ap (λ ks. slice_get ks i) (sym same_arrived) ∙ at) (ap (λ cs. slice_get cs i) (sym same_clocks) ∙ at_clock);
+-- two states that differ in neither log nor arrivals nor what surely holds
+pub knows_too : (initial : List ℕ) (s t : State) → t.log ≡ s.log → t.arrived ≡ s.arrived → t.pasts ≡ s.pasts → KnowsPast initial s → KnowsPast initial t
+knows_too initial s t same_log same_arrived same_pasts knows = record {
+  count = ap length same_pasts ∙ knows.count ∙ ap length (sym same_arrived);
+  past = λ x has i b c at at_past. knows.past x (has_too x has) i b c (ap (λ ks. slice_get ks i) (sym same_arrived) ∙ at) (ap (λ cs. slice_get cs i) (sym same_pasts) ∙ at_past);
 }
   where
     has_too : (x : LoggedRun) → HasState initial t x → HasState initial s x
@@ -88,6 +88,12 @@ module _ (s : State) (k : ℕ) (t : ThreadLog) (is : slice_get s.log k ≡ Some 
   new_event : event_in child.log (key_of e) ≡ Some e
   new_event = ap (event_in child.log) named ∙ event_at child.log (next_key k t) (with_last t e) new_thread ∙ last_pushed t.events e
 
+  not_old : IsSome (event_in s.log (key_of e)) → ⊥
+  not_old there =
+      let lt = ltb-true (next_key k t).number (count_in s.log (next_key k t).thread) (there_kept s.log (next_key k t) (subst (λ key. IsSome (event_in s.log key)) named there)) in
+      let count = count_at s.log k t is in
+      omega (arith, lt, count)
+
   old_arrived : (i : ℕ) (key : EventKey) → slice_get s.arrived i ≡ Some key → slice_get child.arrived i ≡ Some key
   old_arrived i key at = ap (λ ks. slice_get ks i) is_child.arrived ∙ kept_pushed s.arrived (key_of e) i key at
 
@@ -109,24 +115,25 @@ module _ (s : State) (k : ℕ) (t : ThreadLog) (is : slice_get s.log k ≡ Some 
         events = λ key f at. has.events key f (old_event key f at);
         back = λ i r w j at from. arrived_before i w (let lt = slice_get_within s.arrived i r at in omega (arith, lt)) (has.back i r w j (old_arrived i r at) from);
       };
+      new = not_old;
       next = has.events (key_of e) e new_event;
       from = λ j w from. arrived_before (length s.arrived) w (omega arith)
           (has.back (length s.arrived) (key_of e) w j (ap (λ ks. slice_get ks (length s.arrived)) is_child.arrived ∙ last_pushed s.arrived (key_of e)) from);
     }
 
-    pub knows_child : KnowsPast initial s → (c : Clock) → FindsPast initial s e (Some c) → child.clocks ≡ s.clocks ++ c ∷ [] → KnowsPast initial child
+    pub knows_child : KnowsPast initial s → (c : Past) → FindsPast initial s e (Some c) → child.pasts ≡ s.pasts ++ c ∷ [] → KnowsPast initial child
     knows_child knows c finds pushed = record {
-      count = ap length pushed ∙ length-append s.clocks (c ∷ []) ∙ ap (λ n. n + 1) knows.count ∙ sym (length-append s.arrived (key_of e ∷ [])) ∙ ap length (sym is_child.arrived);
-      past = λ x has i b d at at_clock.
-          by x has i b d (at_pushed s.arrived (key_of e) i b (ap (λ ks. slice_get ks i) (sym is_child.arrived) ∙ at)) (at_pushed s.clocks c i d (ap (λ cs. slice_get cs i) (sym pushed) ∙ at_clock));
+      count = ap length pushed ∙ length-append s.pasts (c ∷ []) ∙ ap (λ n. n + 1) knows.count ∙ sym (length-append s.arrived (key_of e ∷ [])) ∙ ap length (sym is_child.arrived);
+      past = λ x has i b d at at_past.
+          by x has i b d (at_pushed s.arrived (key_of e) i b (ap (λ ks. slice_get ks i) (sym is_child.arrived) ∙ at)) (at_pushed s.pasts c i d (ap (λ cs. slice_get cs i) (sym pushed) ∙ at_past));
     }
       where
-        by : (x : LoggedRun) → HasState initial child x → (i : ℕ) (b : EventKey) (d : Clock) → ((i ≡ length s.arrived) × (b ≡ key_of e)) ⊎ (slice_get s.arrived i ≡ Some b)
-            → ((i ≡ length s.clocks) × (d ≡ c)) ⊎ (slice_get s.clocks i ≡ Some d) → IsPast x b d
+        by : (x : LoggedRun) → HasState initial child x → (i : ℕ) (b : EventKey) (d : Past) → ((i ≡ length s.arrived) × (b ≡ key_of e)) ⊎ (slice_get s.arrived i ≡ Some b)
+            → ((i ≡ length s.pasts) × (d ≡ c)) ⊎ (slice_get s.pasts i ≡ Some d) → IsPastOf x b d
         by x has i b d (inr old_b) (inr old_d) = knows.past x (takes_next x has).has i b d old_b old_d
-        by x has i b d (inl last_b) (inl last_d) = subst (λ key. IsPast x key d) (sym last_b.1) (subst (IsPast x (key_of e)) (sym last_d.1) (finds x (takes_next x has)))
+        by x has i b d (inl last_b) (inl last_d) = subst (λ key. IsPastOf x key d) (sym last_b.1) (subst (IsPastOf x (key_of e)) (sym last_d.1) (finds x (takes_next x has)))
         by x has i b d (inr old_b) (inl last_d) = absurd (let lt = slice_get_within s.arrived i b old_b in let here = last_d.0 in let count = knows.count in omega (arith, lt, here, count))
-        by x has i b d (inl last_b) (inr old_d) = absurd (let lt = slice_get_within s.clocks i d old_d in let here = last_b.0 in let count = knows.count in omega (arith, lt, here, count))
+        by x has i b d (inl last_b) (inr old_d) = absurd (let lt = slice_get_within s.pasts i d old_d in let here = last_b.0 in let count = knows.count in omega (arith, lt, here, count))
 
     -- no execution goes on from it
     pub forbidden : FindsPast initial s e None → (m : Module) (x : LoggedRun) → IsState starts child → IsExecutionOf m starts x → x.initial ≡ initial → GoesOn x child → ⊥

@@ -67,7 +67,7 @@ alike_child k e s child added is alike = record {
 alike_noted : (m : Module) (child added : State) → IsNoted m child → IsAlike child added → IsNoted m added
 alike_noted m child added noted alike = record {
   nexts = λ k t next at_t at_next. noted.nexts k t next (ap (λ ts. slice_get ts k) (sym alike.log) ∙ at_t) (ap (λ ns. slice_get ns k) (sym alike.known) ∙ at_next);
-  past = λ initial is. knows_too initial child added alike.log alike.arrived alike.clocks (noted.past initial is);
+  past = λ initial is. knows_too initial child added alike.log alike.arrived alike.pasts (noted.past initial is);
 }
 
 -- what is noted of a child
@@ -77,14 +77,14 @@ made_noted m starts initial nexts k e s child t at_t named fine made noted are i
   nexts = made.known m are;
   past = λ other is_other.
       let same : initial ≡ other = one_init m initial other is_init is_other in
-      subst (λ i. KnowsPast i child) same (knows_child s k t at_t e named starts fine child made.is_child initial (noted.past initial is_init) made.clock (made.past (noted.past initial is_init)) made.pushed);
+      subst (λ i. KnowsPast i child) same (knows_child s k t at_t e named starts fine child made.is_child initial (noted.past initial is_init) made.past (made.finds (noted.past initial is_init)) made.pushed);
 }
 
 -- what is noted of the state that waits
-pub marked_noted : (m : Module) (s marked : State) → IsNoted m s → marked.log ≡ s.log → marked.arrived ≡ s.arrived → marked.clocks ≡ s.clocks → KnowsNexts m marked → IsNoted m marked
-marked_noted m s marked noted same_log same_arrived same_clocks knows = record {
+pub marked_noted : (m : Module) (s marked : State) → IsNoted m s → marked.log ≡ s.log → marked.arrived ≡ s.arrived → marked.pasts ≡ s.pasts → KnowsNexts m marked → IsNoted m marked
+marked_noted m s marked noted same_log same_arrived same_pasts knows = record {
   nexts = knows;
-  past = λ initial is. knows_too initial s marked same_log same_arrived same_clocks (noted.past initial is);
+  past = λ initial is. knows_too initial s marked same_log same_arrived same_pasts (noted.past initial is);
 }
 
 -- x reads r next in thread k, and the state has the events that wrote its bytes
@@ -192,7 +192,7 @@ module _ (m : Module) (starts : List Start) (events : ℕ) (s : State) (fine : I
       e = event_made (record { thread = k; number = length t.events }) op r
 
       child : State
-      child = record { log = extended k e s.log; arrived = s.arrived ++ key_of e ∷ []; marks = []; clocks = []; known = []; hint = None }
+      child = record { log = extended k e s.log; arrived = s.arrived ++ key_of e ∷ []; marks = []; pasts = []; known = []; hint = None }
 
       is_child : IsChild k e s child
       is_child = record { log = refl; arrived = refl; marks = λ i mark at. absurd (none-some mark at) }

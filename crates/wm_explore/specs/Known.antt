@@ -1,5 +1,5 @@
--- What is noted of a state beside its events: what its threads do next, and what surely happens before each event.
-use Rattle.std.specs.Prelude.{◌≡◌, ◌≢◌, ℕ, List, [], ◌∷◌, ◌++◌, Option, Some, slice_get}
+-- What is noted of a state beside its events: what its threads do next, and what surely holds of each event.
+use Rattle.std.specs.Prelude.{◌≡◌, ◌≢◌, ℕ, List, [], ◌∷◌, ◌++◌, Option, None, Some, slice_get}
 use Rattle.wm_ast.specs.declared.module.Module.{Module}
 use Rattle.wm_event.specs.declared.log.ThreadLog.{ThreadLog}
 use Rattle.wm_replay.specs.Continuing.{ContinuesSo}
@@ -9,7 +9,7 @@ use Rattle.wm_event.specs.declared.event.Event.{Event}
 use Rattle.wm_explore.specs.Past.{FindsPast, KnowsPast}
 use Rattle.wm_explore.specs.States.{IsChild}
 use Rattle.wm_explore.specs.Turns.{AreNexts}
-use Rattle.wm_explore.specs.declared.clock.Clock.{Clock}
+use Rattle.wm_explore.specs.declared.past.Past.{Past}
 use Rattle.wm_explore.specs.declared.state.State.{State}
 
 -- a thread of which it is known does that next
@@ -29,10 +29,10 @@ pub record IsNoted (m : Module) (s : State) : Type 0 where
   pub nexts : KnowsNexts m s
   pub past : (initial : List ℕ) → IsInit m initial → KnowsPast initial s
 
--- child has the event e of thread k too, where the threads of s did this next; what was noted of s is noted of it, with what happens before e
+-- child has the event e of thread k too, where the threads of s did this next; what was noted of s is noted of it, with what holds of e
 pub record IsMade (initial : List ℕ) (nexts : List Next) (k : ℕ) (e : Event) (s child : State) : Type 0 where
   pub is_child : IsChild k e s child
-  pub clock : Clock
-  pub pushed : child.clocks ≡ s.clocks ++ clock ∷ []
-  pub past : KnowsPast initial s → FindsPast initial s e (Some clock)
+  pub past : Past
+  pub pushed : child.pasts ≡ s.pasts ++ past ∷ []
+  pub finds : KnowsPast initial s → FindsPast initial s e (Some past)
   pub known : (m : Module) → AreNexts m s.log nexts → KnowsNexts m child

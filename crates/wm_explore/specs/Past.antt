@@ -1,8 +1,8 @@
--- What surely happens before the events of a state: in each execution that has them.
+-- What surely holds of the events of a state: in each execution that has them.
 use Rattle.std.specs.Prelude.{◌≡◌, ◌≢◌, ℕ, ◌+◌, ◌<◌, ◌⊎◌, List, Option, None, Some, IsSome, IsTrue, ⊤, length, slice_get}
 use Rattle.wm_access.specs.AccessWidth.{bytes_of}
 use Rattle.wm_event.specs.Byte.{byte_of}
-use Rattle.wm_event.specs.Event.{is_atomic, key_of, range_of}
+use Rattle.wm_event.specs.Event.{is_atomic, key_of, range_of, writes}
 use Rattle.wm_event.specs.Execution.{ReadsFrom}
 use Rattle.wm_event.specs.HappensBefore.{HappensBefore}
 use Rattle.wm_event.specs.Log.{event_in}
@@ -18,6 +18,7 @@ use Rattle.wm_explore.specs.Clocks.{Counts}
 use Rattle.wm_explore.specs.States.{HasArrived}
 use Rattle.wm_explore.specs.Values.{byte_left}
 use Rattle.wm_explore.specs.declared.clock.Clock.{Clock}
+use Rattle.wm_explore.specs.declared.past.Past.{Past}
 use Rattle.wm_explore.specs.declared.state.State.{State}
 
 -- ---- executions
@@ -31,9 +32,10 @@ pub record HasState (initial : List ℕ) (s : State) (x : LoggedRun) : Type 0 wh
   pub events : (key : EventKey) (e : Event) → event_in s.log key ≡ Some e → event_in x.log key ≡ Some e
   pub back : (i : ℕ) (r w : EventKey) (k : ℕ) → slice_get s.arrived i ≡ Some r → ReadsFrom (execution x) r k (At w) → HasArrived s.arrived i w
 
--- and it has e too, which takes its bytes from events that have arrived
+-- and it has e too, which is none of those, and takes its bytes from events that have arrived
 pub record TakesNext (initial : List ℕ) (s : State) (e : Event) (x : LoggedRun) : Type 0 where
   pub has : HasState initial s x
+  pub new : IsSome (event_in s.log (key_of e)) → ⊥
   pub next : event_in x.log (key_of e) ≡ Some e
   pub from : (k : ℕ) (w : EventKey) → ReadsFrom (execution x) (key_of e) k (At w) → HasArrived s.arrived (length s.arrived) w
 
@@ -45,15 +47,24 @@ IsBefore x b c = (a : EventKey) → Counts c a → IsSome (event_in x.log a) →
 abbrev pub IsPast : LoggedRun → EventKey → Clock → Type 0
 IsPast x b c = (a : EventKey) → Counts c a → IsSome (event_in x.log a) → (a ≡ b) ⊎ HappensBefore (execution x) (At a) (At b)
 
--- there is a clock for each event that has arrived, of what surely happens before it
-pub record KnowsPast (initial : List ℕ) (s : State) : Type 0 where
-  pub count : length s.clocks ≡ length s.arrived
-  pub past : (x : LoggedRun) → HasState initial s x → (i : ℕ) (b : EventKey) (c : Clock) → slice_get s.arrived i ≡ Some b → slice_get s.clocks i ≡ Some c → IsPast x b c
+-- the lowest byte of b is from the source that is given, if one is
+abbrev pub IsFrom : LoggedRun → EventKey → Option EventId → Type 0
+IsFrom x b None = ⊤
+IsFrom x b (Some w) = ReadsFrom (execution x) b 0 w
 
--- None: no execution has e next; or what surely happens before it
-abbrev pub FindsPast : List ℕ → State → Event → Option Clock → Type 0
+-- p holds of b
+abbrev pub IsPastOf : LoggedRun → EventKey → Past → Type 0
+IsPastOf x b p = IsPast x b p.clock × IsFrom x b p.source
+
+-- for each event that has arrived there is something that surely holds of it
+pub record KnowsPast (initial : List ℕ) (s : State) : Type 0 where
+  pub count : length s.pasts ≡ length s.arrived
+  pub past : (x : LoggedRun) → HasState initial s x → (i : ℕ) (b : EventKey) (p : Past) → slice_get s.arrived i ≡ Some b → slice_get s.pasts i ≡ Some p → IsPastOf x b p
+
+-- None: no execution has e next; or what surely holds of it
+abbrev pub FindsPast : List ℕ → State → Event → Option Past → Type 0
 FindsPast initial s e None = (x : LoggedRun) → TakesNext initial s e x → ⊥
-FindsPast initial s e (Some c) = (x : LoggedRun) → TakesNext initial s e x → IsPast x (key_of e) c
+FindsPast initial s e (Some p) = (x : LoggedRun) → TakesNext initial s e x → IsPastOf x (key_of e) p
 
 -- ---- the next event's thread
 
@@ -62,7 +73,9 @@ pub record IsEarlier (s : State) (b : EventKey) (c : Clock) : Type 0 where
   pub place : ℕ
   pub key : EventKey
   pub at : slice_get s.arrived place ≡ Some key
-  pub at_clock : slice_get s.clocks place ≡ Some c
+  pub past : Past
+  pub at_past : slice_get s.pasts place ≡ Some past
+  pub is : past.clock ≡ c
   pub same : key.thread ≡ b.thread
   pub less : key.number < b.number
 
@@ -83,7 +96,7 @@ left_by initial log (At w) a = byte_left log w a
 -- the event that arrived at this place, which is key, comes after w
 abbrev pub IsAfter : State → ℕ → EventKey → EventId → Type 0
 IsAfter s place key Init = ⊤
-IsAfter s place key (At w) = (w ≢ key) × (c : Clock) × (slice_get s.clocks place ≡ Some c) × Counts c w
+IsAfter s place key (At w) = (w ≢ key) × (p : Past) × (slice_get s.pasts place ≡ Some p) × Counts p.clock w
 
 -- the event that arrived at this place writes the address, after the source w and before what c is the past of
 pub record Hides (s : State) (c : Clock) (place : ℕ) (w : EventId) (a : ℕ) : Type 0 where
@@ -121,16 +134,46 @@ CannotGiveBeside initial s c e w k u = AreApart s.log e w u ⊎ CannotGive initi
 abbrev pub HasNoSource : List ℕ → State → Clock → Event → EventId → ℕ → Type 0
 HasNoSource initial s c e w k = (u : EventId) → IsSource s u → CannotGiveBeside initial s c e w k u
 
+-- w is Init, or is atomic and has the range of e
+abbrev pub WouldSynchronize : List ThreadLog → Event → EventId → Type 0
+WouldSynchronize log e Init = ⊤
+WouldSynchronize log e (At w) = (f : Event) × (event_in log w ≡ Some f) × IsTrue (is_atomic f) × (range_of f ≡ range_of e)
+
+-- an atomic event that writes, with the range of e
+pub record IsUpdateLike (log : List ThreadLog) (e : Event) (key : EventKey) : Type 0 where
+  pub event : Event
+  pub at_event : event_in log key ≡ Some event
+  pub atomic : IsTrue (is_atomic event)
+  pub writing : IsTrue (writes event)
+  pub same : range_of event ≡ range_of e
+
+-- such an event arrived at this place, and surely takes its lowest byte from w
+pub record IsRival (s : State) (e : Event) (place : ℕ) (w : EventId) : Type 0 where
+  pub past : Past
+  pub at_past : slice_get s.pasts place ≡ Some past
+  pub from : past.source ≡ Some w
+  pub key : EventKey
+  pub at : slice_get s.arrived place ≡ Some key
+  pub like : IsUpdateLike s.log e key
+
+-- e is an atomic update, and another one of its range surely takes its lowest byte from w
+pub record IsTaken (s : State) (e : Event) (w : EventId) : Type 0 where
+  pub atomic : IsTrue (is_atomic e)
+  pub writing : IsTrue (writes e)
+  pub source : WouldSynchronize s.log e w
+  pub place : ℕ
+  pub rival : IsRival s e place w
+
 -- the lowest byte of e isn't from w
 abbrev pub CannotBegin : List ℕ → State → Clock → Event → EventId → Type 0
-CannotBegin initial s c e w = CannotGive initial s c e 0 w ⊎ ((k : ℕ) × (k < bytes_of e.width) × HasNoSource initial s c e w k)
+CannotBegin initial s c e w = CannotGive initial s c e 0 w ⊎ (IsTaken s e w ⊎ ((k : ℕ) × (k < bytes_of e.width) × HasNoSource initial s c e w k))
 
 -- e synchronizes with key, which arrived at this place, if it takes a byte from it; and the clock there counts a
 pub record Gains (s : State) (e : Event) (place : ℕ) (key a : EventKey) : Type 0 where
   pub event : Event
-  pub clock : Clock
-  pub at_clock : slice_get s.clocks place ≡ Some clock
-  pub counted : Counts clock a
+  pub past : Past
+  pub at_past : slice_get s.pasts place ≡ Some past
+  pub counted : Counts past.clock a
   pub at_event : event_in s.log key ≡ Some event
   pub writer : IsTrue (is_atomic event)
   pub reader : IsTrue (is_atomic e)
@@ -144,11 +187,16 @@ AreGainedAt s e place key c = (a : EventKey) → Counts c a → Gains s e place 
 abbrev pub AreGained : State → Event → EventId → Clock → Type 0
 AreGained s e w c = (a : EventKey) → Counts c a → (place : ℕ) × (key : EventKey) × (w ≡ At key) × (slice_get s.arrived place ≡ Some key) × Gains s e place key a
 
--- None: the lowest byte isn't from w; or it isn't, or c is gained from it
-abbrev pub FindsFor : List ℕ → State → Clock → Event → Option Clock → EventId → Type 0
+-- w is the one that is given, if one is
+abbrev pub IsOnly : EventId → Option EventId → Type 0
+IsOnly w None = ⊤
+IsOnly w (Some only) = w ≡ only
+
+-- None: the lowest byte isn't from w; or it isn't, or p holds where it is
+abbrev pub FindsFor : List ℕ → State → Clock → Event → Option Past → EventId → Type 0
 FindsFor initial s before e None w = CannotBegin initial s before e w
-FindsFor initial s before e (Some c) w = CannotBegin initial s before e w ⊎ AreGained s e w c
+FindsFor initial s before e (Some p) w = CannotBegin initial s before e w ⊎ (AreGained s e w p.clock × IsOnly w p.source)
 
 -- the same of each source
-abbrev pub FindsCommon : List ℕ → State → Clock → Event → Option Clock → Type 0
+abbrev pub FindsCommon : List ℕ → State → Clock → Event → Option Past → Type 0
 FindsCommon initial s before e common = (w : EventId) → IsSource s w → FindsFor initial s before e common w

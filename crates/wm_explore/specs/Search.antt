@@ -87,7 +87,7 @@ pub record IsFirstState (starts : List Start) (s : State) : Type 0 where
   pub log : s.log ≡ map (λ start. record { start = start; end = Cut; steps = 0; events = [] }) starts
   pub arrived : s.arrived ≡ []
   pub marks : (k : ℕ) (mark : Option ℕ) → slice_get s.marks k ≡ Some mark → mark ≡ None
-  pub clocks : s.clocks ≡ []
+  pub pasts : s.pasts ≡ []
   pub known : s.known ≡ []
 
 -- ---- an exploration

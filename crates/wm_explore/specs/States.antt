@@ -42,7 +42,7 @@ pub record IsAlike (s t : State) : Type 0 where
   pub log : t.log ≡ s.log
   pub arrived : t.arrived ≡ s.arrived
   pub marks : t.marks ≡ s.marks
-  pub clocks : t.clocks ≡ s.clocks
+  pub pasts : t.pasts ≡ s.pasts
   pub known : t.known ≡ s.known
 
 -- ---- what goes on from a state

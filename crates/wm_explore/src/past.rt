@@ -1,17 +1,26 @@
-//! What surely happens before an event that is added to a state, whatever wrote the bytes that were read.
+//! What surely holds of an event that is added to a state, whichever events wrote the bytes that were read.
 ghost use Rattle.std.specs.Prelude.{◌≡◌, ◌↔◌, ◌<◌, ℕ, List, Some, true, false, IfSome, IsTrue, slice_get};
 ghost use Rattle.wm_event.specs.Event.{key_of};
 ghost use Rattle.wm_event.specs.Rules.{IsTearFree};
 ghost use Rattle.wm_event.specs.declared.event.EventId.{EventId};
 ghost use Rattle.wm_event.specs.declared.event.Event.{Event};
 ghost use Rattle.wm_event.specs.declared.event.EventId.TheVariants.{At, Init};
-ghost use Rattle.wm_explore.specs.Past.{AreApart, AreGainedAt, CannotBegin, CannotGive, CannotGiveBeside, FindsCommon, FindsFor, FindsPast, HasNoSource, Hides, IsAfter, IsEarlier, IsLike, IsThreadPast, KnowsPast, left_by};
+ghost use Rattle.wm_explore.specs.Past.{AreApart, AreGainedAt, CannotBegin, CannotGive, CannotGiveBeside, FindsCommon, FindsFor, FindsPast, HasNoSource, Hides, IsAfter, IsEarlier, IsLike, IsRival, IsTaken, IsThreadPast, IsUpdateLike, KnowsPast, WouldSynchronize, left_by};
 
 use crate::clock::Clock;
 use crate::state::State;
 use crate::values::byte_left;
 use wm_access::AccessWidth;
 use wm_event::{Event, EventId, EventKey, Initial, byte_of};
+
+/// What surely holds of an event.
+#[derive(Clone, Copy)]
+pub(crate) struct Past {
+    /// What happens before it, and it itself.
+    pub clock: Clock,
+    /// The source of its lowest byte, if it reads and there is only one that it can be from.
+    pub source: Option<EventId>,
+}
 
 /// The clock of the event that arrived at a place, if it is an earlier one of the thread of the next event.
 fn earlier(state: &State, place: usize, next: EventKey) -> Option<Clock>
@@ -24,7 +33,8 @@ fn earlier(state: &State, place: usize, next: EventKey) -> Option<Clock>
     if key.number >= next.number {
         return None;
     }
-    state.clocks.get(place).copied()
+    let past = state.pasts.get(place)?;
+    Some(past.clock)
 }
 
 /// What happens before the next event, by the order of its thread.
@@ -51,9 +61,9 @@ fn is_after(state: &State, place: usize, key: EventKey, source: EventId) -> bool
     if writer == key {
         return false;
     }
-    match state.clocks.get(place) {
+    match state.pasts.get(place) {
         None => false,
-        Some(clock) => clock.counts(writer),
+        Some(past) => past.clock.counts(writer),
     }
 }
 
@@ -211,6 +221,76 @@ fn has_source(
     false
 }
 
+/// Whether the next event synchronizes with a source from which it takes a byte, or the source is the initial memory.
+fn would_synchronize(state: &State, next: &Event, source: EventId) -> bool
+    ensures { result ≡ true → WouldSynchronize state.now.log next.now source }
+{
+    let EventId::At(key) = source else {
+        return true;
+    };
+    let Some(event) = state.log.event(key) else {
+        return false;
+    };
+    if !event.is_atomic() {
+        return false;
+    }
+    event.range() == next.range()
+}
+
+/// Whether the event that arrived at a place is an atomic update of the range of the next one.
+fn is_update_like(state: &State, next: &Event, key: EventKey) -> bool
+    ensures { result ≡ true → IsUpdateLike state.now.log next.now key }
+{
+    let Some(event) = state.log.event(key) else {
+        return false;
+    };
+    if !event.is_atomic() {
+        return false;
+    }
+    if !event.writes() {
+        return false;
+    }
+    event.range() == next.range()
+}
+
+/// Whether the event that arrived at a place is an atomic update of the range of the next one that surely takes its lowest
+/// byte from a source.
+fn is_rival(state: &State, next: &Event, place: usize, source: EventId) -> bool
+    ensures { result ≡ true → IsRival state.now next.now place source }
+{
+    let Some(past) = state.pasts.get(place) else {
+        return false;
+    };
+    if past.source != Some(source) {
+        return false;
+    }
+    let Some(key) = state.arrived.get(place) else {
+        return false;
+    };
+    is_update_like(state, next, *key)
+}
+
+/// Whether an update surely takes its lowest byte from a source, so that the next event, an update of its range, doesn't.
+fn is_taken(state: &State, next: &Event, source: EventId) -> bool
+    ensures { result ≡ true → IsTaken state.now next.now source }
+{
+    if !next.is_atomic() {
+        return false;
+    }
+    if !next.writes() {
+        return false;
+    }
+    if !would_synchronize(state, next, source) {
+        return false;
+    }
+    for place in 0..state.arrived.len() {
+        if is_rival(state, next, place, source) {
+            return true;
+        }
+    }
+    false
+}
+
 /// Whether the next event can have its lowest byte from a source.
 fn can_begin(
     state: &State,
@@ -222,6 +302,9 @@ fn can_begin(
     ensures { result ≡ false → CannotBegin initial.now state.now before.now next.now source }
 {
     if !can_give(state, initial, before, next, 0, source) {
+        return false;
+    }
+    if is_taken(state, next, source) {
         return false;
     }
     for byte in 1..next.width.bytes() {
@@ -237,45 +320,42 @@ fn can_begin(
 fn gained(state: &State, next: &Event, place: usize, key: EventKey) -> Clock
     ensures { AreGainedAt state.now next.now place key result }
 {
-    let Some(event) = state.log.event(key) else {
-        return Clock::zero();
-    };
-    if !event.is_atomic() {
-        return Clock::zero();
-    }
     if !next.is_atomic() {
         return Clock::zero();
     }
-    if event.range() != next.range() {
+    if !would_synchronize(state, next, EventId::At(key)) {
         return Clock::zero();
     }
-    match state.clocks.get(place) {
+    match state.pasts.get(place) {
         None => Clock::zero(),
-        Some(clock) => *clock,
+        Some(past) => past.clock,
     }
 }
 
-/// What the next event gains if its lowest byte is from the initial memory; None if it isn't.
-fn gained_initially(state: &State, initial: &Initial, before: &Clock, next: &Event) -> Option<Clock>
+/// What surely holds of the next event if its lowest byte is from the initial memory; None if it isn't.
+fn gained_initially(state: &State, initial: &Initial, before: &Clock, next: &Event) -> Option<Past>
     ensures { FindsFor initial.now state.now before.now next.now result Init }
 {
-    if can_begin(state, initial, before, next, EventId::Init) {
-        Some(Clock::zero())
-    } else {
-        None
+    if !can_begin(state, initial, before, next, EventId::Init) {
+        return None;
     }
+    Some(Past {
+        clock: Clock::zero(),
+        source: Some(EventId::Init),
+    })
 }
 
-/// What the next event gains from the sources before and from the event that arrived at a place.
+/// What surely holds of the next event if its lowest byte is from one of the sources before, or from the event that arrived
+/// at a place.
 fn gained_too(
     state: &State,
     initial: &Initial,
     before: &Clock,
     next: &Event,
-    common: Option<Clock>,
+    common: Option<Past>,
     place: usize,
     key: EventKey,
-) -> Option<Clock>
+) -> Option<Past>
     requires { slice_get state.now.arrived place ≡ Some key }
     ensures here { FindsFor initial.now state.now before.now next.now result (At key) }
     ensures kept { (w : EventId) → FindsFor initial.now state.now before.now next.now common w →
@@ -286,13 +366,19 @@ fn gained_too(
     }
     let gained = gained(state, next, place, key);
     match common {
-        None => Some(gained),
-        Some(other) => Some(other.met(&gained)),
+        None => Some(Past {
+            clock: gained,
+            source: Some(EventId::At(key)),
+        }),
+        Some(other) => Some(Past {
+            clock: other.clock.met(&gained),
+            source: None,
+        }),
     }
 }
 
-/// What the next event gains from each source that its lowest byte can have; None if it can have none.
-fn common_past(state: &State, initial: &Initial, before: &Clock, next: &Event) -> Option<Clock>
+/// What surely holds of the next event, from whichever source its lowest byte is; None if it is from none.
+fn common_past(state: &State, initial: &Initial, before: &Clock, next: &Event) -> Option<Past>
     ensures { FindsCommon initial.now state.now before.now next.now result }
 {
     let mut common = gained_initially(state, initial, before, next);
@@ -303,15 +389,18 @@ fn common_past(state: &State, initial: &Initial, before: &Clock, next: &Event) -
     common
 }
 
-/// What surely happens before an event that is added to a state, by the order of its thread, and it itself.
-pub(crate) fn past_of_write(state: &State, next: EventKey) -> Clock
+/// What surely holds of an event that is added to a state, by the order of its thread.
+pub(crate) fn past_of_write(state: &State, next: EventKey) -> Past
     ensures { (initial : List ℕ) (e : Event) → key_of e ≡ next → KnowsPast initial state.now → FindsPast initial state.now e (Some result) }
 {
-    before_next(state, next).with(next)
+    Past {
+        clock: before_next(state, next).with(next),
+        source: None,
+    }
 }
 
-/// What surely happens before an event that is added to a state, and it itself; None if no valid execution has it there.
-pub(crate) fn past_of(state: &State, initial: &Initial, next: &Event) -> Option<Clock>
+/// What surely holds of an event that is added to a state; None if no valid execution has it there.
+pub(crate) fn past_of(state: &State, initial: &Initial, next: &Event) -> Option<Past>
     ensures { KnowsPast initial.now state.now → FindsPast initial.now state.now next.now result }
 {
     if !next.reads() {
@@ -320,6 +409,9 @@ pub(crate) fn past_of(state: &State, initial: &Initial, next: &Event) -> Option<
     let before = before_next(state, next.key());
     match common_past(state, initial, &before, next) {
         None => None,
-        Some(common) => Some(before.joined(&common).with(next.key())),
+        Some(common) => Some(Past {
+            clock: before.joined(&common.clock).with(next.key()),
+            source: common.source,
+        }),
     }
 }

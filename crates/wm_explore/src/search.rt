@@ -211,8 +211,8 @@ fn add_read(
 {
     match past_of(state, initial, &event) {
         None => Ok(()),
-        Some(clock) => {
-            let child = state.with(alloc, initial, nexts, thread, event, clock)?;
+        Some(past) => {
+            let child = state.with(alloc, initial, nexts, thread, event, past)?;
             add_permitted(alloc, initial, nodes, child, progress)
         }
     }
@@ -273,8 +273,8 @@ fn extend(
         Turn::Nothing => finish(alloc, module, limits.nodes, state, progress),
         Turn::Write(thread, op) => {
             let event = next_event(state, thread, op, 0);
-            let clock = past_of_write(state, event.key());
-            let child = state.with(alloc, module.initial(), nexts, thread, event, clock)?;
+            let past = past_of_write(state, event.key());
+            let child = state.with(alloc, module.initial(), nexts, thread, event, past)?;
             progress.work.push(child)?;
             Ok(())
         }
@@ -309,7 +309,7 @@ fn first_state(alloc: Global, starts: &[Start]) -> Result<State, AllocError>
         log: Log::new(threads),
         arrived: List::new(alloc),
         marks,
-        clocks: List::new(alloc),
+        pasts: List::new(alloc),
         known: List::new(alloc),
         hint: Some(Hint::new(alloc)),
     })

@@ -7,9 +7,9 @@ ghost use Rattle.wm_explore.specs.States.{IsAlike, IsChild, IsMarked, extended};
 ghost use Rattle.wm_explore.specs.Turns.{AreNexts};
 ghost use Rattle.wm_replay.specs.declared.continuing.Next.{Next};
 
-use crate::clock::Clock;
 use crate::copies::{copied_log, with_event};
 use crate::hint::Hint;
+use crate::past::Past;
 use std::alloc::{AllocError, Global};
 use wm_event::{Event, EventKey, Initial, Log};
 use wm_list::List;
@@ -25,8 +25,8 @@ pub(crate) struct State {
     /// For each thread: if it is marked with a number, some byte of its next event is from an event that isn't among that
     /// many that arrived first.
     pub marks: List<Option<usize>>,
-    /// For each event, in the order in which they were added, what surely happens before it.
-    pub clocks: List<Clock>,
+    /// For each event, in the order in which they were added, what surely holds of it.
+    pub pasts: List<Past>,
     /// For each thread what it does next, where that is known.
     pub known: List<Option<Next>>,
     /// An execution of the events that the memory rules are likely to permit. Nothing rests on it.
@@ -93,8 +93,7 @@ fn hint_with(
 }
 
 impl State {
-    /// The state in which this thread has one more event, before which so much surely happens, where the threads did this
-    /// next.
+    /// The state in which this thread has one more event, of which so much surely holds, where the threads did this next.
     pub(crate) fn with(
         &self,
         alloc: Global,
@@ -102,26 +101,26 @@ impl State {
         nexts: &[Next],
         thread: usize,
         event: Event,
-        clock: Clock,
+        past: Past,
     ) -> Result<State, AllocError>
         requires { IsLog (extended thread event self.now.log) }
         ensures child { IfOk result (IsChild thread event self.now) }
-        ensures clocks { IfOk result (λ s. s.clocks ≡ self.now.clocks ++ clock ∷ []) }
+        ensures pasts { IfOk result (λ s. s.pasts ≡ self.now.pasts ++ past ∷ []) }
         ensures known { IfOk result (λ s. (m : Module) → AreNexts m self.now.log nexts.now → KnowsNexts m s) }
     {
         let log = with_event(alloc, &self.log, thread, event)?;
         let mut arrived = List::from_vec(self.arrived.as_slice().to_vec(alloc)?);
         arrived.push(event.key())?;
         let marks = with_mark(alloc, self.marks.as_slice(), thread, None)?;
-        let mut clocks = List::from_vec(self.clocks.as_slice().to_vec(alloc)?);
-        clocks.push(clock)?;
+        let mut pasts = List::from_vec(self.pasts.as_slice().to_vec(alloc)?);
+        pasts.push(past)?;
         let known = known_but(alloc, nexts, thread)?;
         let hint = hint_with(alloc, initial, &self.hint, event)?;
         Ok(State {
             log,
             arrived,
             marks,
-            clocks,
+            pasts,
             known,
             hint,
         })
@@ -135,7 +134,7 @@ impl State {
             log,
             arrived,
             marks,
-            clocks,
+            pasts,
             known,
             hint: _hint,
         } = self;
@@ -143,7 +142,7 @@ impl State {
             log,
             arrived,
             marks,
-            clocks,
+            pasts,
             known,
             hint: Some(hint),
         }
@@ -159,7 +158,7 @@ impl State {
     ) -> Result<State, AllocError>
         ensures log { IfOk result (λ s. s.log ≡ self.now.log) }
         ensures arrived { IfOk result (λ s. s.arrived ≡ self.now.arrived) }
-        ensures clocks { IfOk result (λ s. s.clocks ≡ self.now.clocks) }
+        ensures pasts { IfOk result (λ s. s.pasts ≡ self.now.pasts) }
         ensures marks { IfOk result (λ s. IsMarked thread (Some (length self.now.arrived)) self.now.marks s.marks) }
         ensures known { IfOk result (λ s. (m : Module) → AreNexts m self.now.log nexts.now → KnowsNexts m s) }
     {
@@ -171,14 +170,14 @@ impl State {
             thread,
             Some(self.arrived.len()),
         )?;
-        let clocks = List::from_vec(self.clocks.as_slice().to_vec(alloc)?);
+        let pasts = List::from_vec(self.pasts.as_slice().to_vec(alloc)?);
         let known = all_known(alloc, nexts)?;
         let hint = copied_hint(alloc, &self.hint)?;
         Ok(State {
             log,
             arrived,
             marks,
-            clocks,
+            pasts,
             known,
             hint,
         })

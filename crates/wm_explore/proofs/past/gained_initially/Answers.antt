@@ -1,5 +1,5 @@
-use Rattle.std.proofs.Common.{inr}
+use Rattle.std.proofs.Common.{inr, refl}
 use Rattle.wm_explore.proofs.past.gained_initially.Goals as goal
 
-pub returns-then-can_begin : goal.returns-then-can_begin
-returns-then-can_begin c = inr (λ a counts. absurd (c.zero.ensures a counts))
+pub returns : goal.returns
+returns c = inr (λ a counts. absurd (c.zero.ensures a counts), refl)

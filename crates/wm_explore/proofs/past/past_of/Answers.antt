@@ -7,7 +7,7 @@ use Rattle.wm_event.specs.declared.event.EventId.TheVariants.{At}
 use Rattle.wm_event.specs.declared.event.EventKey.{EventKey}
 use Rattle.wm_explore.specs.Clocks.{Counts}
 use Rattle.wm_explore.specs.Past.{FindsCommon, IsBefore, IsThreadPast}
-use Rattle.wm_explore.proofs.PastLaw.{common_before, finds_none, own_past, thread_past}
+use Rattle.wm_explore.proofs.PastLaw.{common_before, common_from, finds_none, own_past, thread_past}
 use Rattle.wm_explore.proofs.past.past_of.Goals as goal
 
 pub returns-in-None : goal.returns-in-None
@@ -20,9 +20,11 @@ returns-in-None c knows x takes =
     (subst (FindsCommon c.args.initial.now s before e) c.in-None.is c.common_past.ensures)
 
 pub returns-in-Some : goal.returns-in-Some
-returns-in-Some c knows x takes =
-    own_past c.args.initial.now c.args.state.now c.args.next.now knows x takes c.joined.result c.with.result joined
-    (subst (λ (b : EventKey). (a : EventKey) → Counts c.with.result a → Counts c.joined.result a ⊎ ((a.thread ≡ b.thread) × (a.number ≤ b.number))) c.key-in-Some.ensures c.with.ensures)
+returns-in-Some c knows x takes = (
+  own_past c.args.initial.now c.args.state.now c.args.next.now knows x takes c.joined.result c.with.result joined
+      (subst (λ (b : EventKey). (a : EventKey) → Counts c.with.result a → Counts c.joined.result a ⊎ ((a.thread ≡ b.thread) × (a.number ≤ b.number))) c.key-in-Some.ensures c.with.ensures),
+  common_from c.args.initial.now c.args.state.now c.args.next.now knows x takes c.before_next-before.result past (sym c.reads.ensures ∙ c.if-not-reads.false) c.in-Some.common finds,
+)
   where
     past : IsBefore x (key_of c.args.next.now) c.before_next-before.result
     past =
@@ -35,7 +37,7 @@ returns-in-Some c knows x takes =
     joined : IsBefore x (key_of c.args.next.now) c.joined.result
     joined a counts there = by (c.joined.ensures a counts)
       where
-        by : Counts c.before_next-before.result a ⊎ Counts c.in-Some.common a → HappensBefore (execution x) (At a) (At (key_of c.args.next.now))
+        by : Counts c.before_next-before.result a ⊎ Counts c.in-Some.common.clock a → HappensBefore (execution x) (At a) (At (key_of c.args.next.now))
         by (inl own) = past a own there
         by (inr common) =
             common_before c.args.initial.now c.args.state.now c.args.next.now knows x takes c.before_next-before.result past (sym c.reads.ensures ∙ c.if-not-reads.false) c.in-Some.common finds a common there

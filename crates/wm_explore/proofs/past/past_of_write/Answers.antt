@@ -9,6 +9,8 @@ use Rattle.wm_explore.proofs.past.past_of_write.Goals as goal
 pub returns : goal.returns
 returns c initial e named knows x takes =
     let s = c.args.state.now in
-    let before = c.before_next.result in
-    own_past initial s e knows x takes before c.with.result (thread_past initial s e knows x takes before (subst (λ b. IsThreadPast s b before) (sym named) c.before_next.ensures))
-    (subst (λ (b : EventKey). (a : EventKey) → Counts c.with.result a → Counts before a ⊎ ((a.thread ≡ b.thread) × (a.number ≤ b.number))) (sym named) c.with.ensures)
+    let before = c.before_next.result in (
+      own_past initial s e knows x takes before c.with.result (thread_past initial s e knows x takes before (subst (λ b. IsThreadPast s b before) (sym named) c.before_next.ensures))
+          (subst (λ (b : EventKey). (a : EventKey) → Counts c.with.result a → Counts before a ⊎ ((a.thread ≡ b.thread) × (a.number ≤ b.number))) (sym named) c.with.ensures),
+      tt,
+    )

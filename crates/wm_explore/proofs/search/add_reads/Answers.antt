@@ -14,7 +14,7 @@ loop-value-init c = record {
       read_none c.args.module.now starts c.args.limits.events c.args.state.now fine c.args.thread c.args.op c.args.progress.now c.as_slice-value-items.result.now progress
       (record { work = c.push.new.self; finished = c.args.progress.now.finished; met = c.args.progress.now.met }) refl refl c.in_ok-marked.field-0 c.in_ok-push.ensures.items
       c.in_ok-marked.ensures.log c.in_ok-marked.ensures.arrived c.in_ok-marked.ensures.marks
-      (marked_noted c.args.module.now c.args.state.now c.in_ok-marked.field-0 c.requires.noted c.in_ok-marked.ensures.log c.in_ok-marked.ensures.arrived c.in_ok-marked.ensures.clocks
+      (marked_noted c.args.module.now c.args.state.now c.in_ok-marked.field-0 c.requires.noted c.in_ok-marked.ensures.log c.in_ok-marked.ensures.arrived c.in_ok-marked.ensures.pasts
       (c.in_ok-marked.ensures.known c.args.module.now c.requires.nexts));
 }
 

@@ -45,9 +45,9 @@ returns-in_ok-push-in-Write c starts fine progress =
     (made_noted c.args.module.now starts c.initial.result.now c.args.nexts.now c.in-Write.thread c.next_event-event.result s c.in_ok-child-in-Write.child t turn.0.is_thread (ap key_of event) fine
     (record {
       is_child = c.in_ok-child-in-Write.ensures.child;
-      clock = c.past_of_write-clock.result;
-      pushed = c.in_ok-child-in-Write.ensures.clocks;
-      past = λ knows. c.past_of_write-clock.ensures c.initial.result.now c.next_event-event.result (sym c.key.ensures) knows;
+      past = c.past_of_write-past.result;
+      pushed = c.in_ok-child-in-Write.ensures.pasts;
+      finds = λ knows. c.past_of_write-past.ensures c.initial.result.now c.next_event-event.result (sym c.key.ensures) knows;
       known = c.in_ok-child-in-Write.ensures.known;
     }) c.requires.noted are c.initial.ensures)
 
