@@ -1,6 +1,6 @@
 -- What is found of the next event of a state holds in each execution that has it.
 use Rattle.std.proofs.Common.{◌≡◌, ℕ, ◌+◌, ◌<◌, ◌≤◌, true, List, [], ◌∷◌, ◌++◌, inl, inr, Option, None, Some, IsSome, IsTrue, refl, sym, ap, subst, ◌∙◌, arith}
-use Rattle.std.specs.Prelude.{◌≢◌, ◌⊎◌, option_and_then, slice_get, if◌then◌else◌}
+use Rattle.std.specs.Prelude.{◌⊎◌, option_and_then, slice_get, if◌then◌else◌}
 use Rattle.std.proofs.lemmas.Bool.{cases_lt}
 use Rattle.std.proofs.lemmas.Option.{same_Some, slice_get_within}
 use Rattle.wm_access.specs.AccessWidth.{bytes_of}

@@ -1,4 +1,4 @@
-use Rattle.std.proofs.Common.{◌<◌, inl, inr, subst}
+use Rattle.std.proofs.Common.{◌<◌, inr, subst}
 use Rattle.wm_explore.proofs.past.can_begin.Goals as goal
 
 pub returns-then-not-has_source : goal.returns-then-not-has_source
