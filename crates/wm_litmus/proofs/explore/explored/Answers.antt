@@ -10,8 +10,10 @@ use Rattle.wm_litmus.proofs.Covering.{finds_covered}
 use Rattle.wm_litmus.proofs.explore.explored.Goals as goal
 
 pub explore-requires : goal.explore-requires
-explore-requires g c =
-    subst (λ starts. length starts ≤ max_threads) (sym c.as_slice.ensures) c.in-Ok.ensures.planned.threads.few
+explore-requires g c = (
+  c.type_bounds.sync-R,
+  subst (λ starts. length starts ≤ max_threads) (sym c.as_slice.ensures) c.in-Ok.ensures.planned.threads.few,
+)
 
 pub listed-requires : goal.listed-requires
 listed-requires g c = λ k d within.
