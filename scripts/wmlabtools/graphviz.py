@@ -65,7 +65,8 @@ def strokes_of(items: Iterable[Item]) -> Iterator[list[Point]]:
 def label_faults(graph: str) -> list[str]:
     """Which labels of a picture's lines are on something, in sentences; or that Graphviz doesn't draw it."""
     ran = subprocess.run(["dot", "-Tjson"], input=graph, capture_output=True, text=True, check=False)
-    if ran.returncode or ran.stderr:
+    # It warns of fonts, too, which is no fault.
+    if ran.returncode or "Error" in ran.stderr:
         return [f"dot says: {(ran.stderr or 'nothing').splitlines()[0]}"]
     drawn = json.loads(ran.stdout)
     shown = [item for item in (*drawn["objects"], *drawn.get("edges", [])) if item.get("style") != "invis"]
