@@ -1,5 +1,5 @@
 -- What is found of the next event of a state holds in each execution that has it.
-use Rattle.std.proofs.Common.{◌≡◌, ℕ, ◌+◌, ◌<◌, ◌≤◌, true, List, [], ◌∷◌, ◌++◌, inl, inr, Option, None, Some, IsSome, IsTrue, refl, sym, ap, subst, ◌∙◌, arith}
+use Rattle.std.proofs.Common.{◌≡◌, ℕ, ◌+◌, ◌<◌, ◌≤◌, true, List, [], ◌∷◌, ◌++◌, length, inl, inr, Option, None, Some, IsSome, IsTrue, refl, sym, ap, subst, ◌∙◌, arith}
 use Rattle.std.specs.Prelude.{◌⊎◌, option_and_then, slice_get, if◌then◌else◌}
 use Rattle.std.proofs.lemmas.Bool.{cases_lt}
 use Rattle.std.proofs.lemmas.Option.{same_Some, slice_get_within}
@@ -19,7 +19,8 @@ use Rattle.wm_event.specs.declared.event.EventId.{EventId}
 use Rattle.wm_event.specs.declared.event.EventId.TheVariants.{Init, At}
 use Rattle.wm_event.specs.declared.event.EventKey.{EventKey}
 use Rattle.wm_explore.specs.Clocks.{Counts}
-use Rattle.wm_explore.specs.Past.{AreApart, AreGained, CannotBegin, CannotGive, FindsCommon, Gains, Hides, IsAfter, IsBefore, IsFrom, IsLike, IsOnly, IsPast, IsSource, IsTaken, IsThreadPast, KnowsPast, TakesNext, WouldSynchronize, left_by}
+use Rattle.wm_explore.specs.States.{HasArrived}
+use Rattle.wm_explore.specs.Past.{AreApart, AreGained, BreaksMark, CannotBegin, CannotGive, CannotTake, FindsCommon, Gains, HasNoSource, Hides, IsAfter, IsBefore, IsFrom, IsLike, IsOnly, IsPast, IsSource, IsTaken, IsThreadPast, KeepsMark, KnowsPast, TakesNext, WouldSynchronize, left_by}
 use Rattle.wm_explore.specs.declared.clock.Clock.{Clock}
 use Rattle.wm_explore.specs.declared.past.Past.{Past}
 use Rattle.wm_explore.specs.declared.state.State.{State}
@@ -98,8 +99,8 @@ module _ (initial : List ℕ) (s : State) (e : Event) (knows : KnowsPast initial
     like : (w : EventId) → IsLike s.log e w → IsTearFreeLike (execution x) e w
     like w l = (l.event, ap (event_at (execution x)) l.is ∙ takes.has.events l.key l.event l.at, l.free, l.same)
 
-    apart : (w u : EventId) (k : ℕ) → AreApart s.log e w u → ReadsFrom (execution x) b 0 w → ReadsFrom (execution x) b k u → ⊥
-    apart w u k are first second = are.other (takes.has.valid.keeps_no_tearing b e takes.next are.free u w ((k, second), like u are.second) ((0, first), like w are.first))
+    apart : (w u : EventId) (i k : ℕ) → AreApart s.log e w u → ReadsFrom (execution x) b i w → ReadsFrom (execution x) b k u → ⊥
+    apart w u i k are first second = are.other (takes.has.valid.keeps_no_tearing b e takes.next are.free u w ((k, second), like u are.second) ((i, first), like w are.first))
 
     -- ---- two updates don't take from one source
 
@@ -165,22 +166,47 @@ module _ (initial : List ℕ) (s : State) (e : Event) (knows : KnowsPast initial
         by (inr most) = by_second (cases_lt (place (execution x) (At b)) (place (execution x) (At u))) most
 
     module _ (reading : reads e ≡ true) where
-      writer : (k : ℕ) → k < bytes_of e.width → (u : EventId) × ReadsFrom (execution x) b k u
-      writer k lt =
-          let count = (takes.has.shaped.good b e takes.next).count ∙ ap (λ r. if r then bytes_of e.width else 0) reading in
-          item_within ((execution x).writers_of b) k (subst (λ n. k < n) (sym count) lt)
+      count : length ((execution x).writers_of b) ≡ bytes_of e.width
+      count = (takes.has.shaped.good b e takes.next).count ∙ ap (λ r. if r then bytes_of e.width else 0) reading
 
-      not_begin : (w : EventId) → ReadsFrom (execution x) b 0 w → CannotBegin initial s before e w → ⊥
-      not_begin w from (inl c) = cannot 0 w from c
-      not_begin w from (inr (inl t)) = taken w from t
-      not_begin w from (inr (inr (k, lt, none))) = by (none u.0 (source k u.0 u.1))
+      writer : (k : ℕ) → k < bytes_of e.width → (u : EventId) × ReadsFrom (execution x) b k u
+      writer k lt = item_within ((execution x).writers_of b) k (subst (λ n. k < n) (sym count) lt)
+
+      -- byte k isn't from nothing, if byte i is from w
+      not_alone : (w : EventId) (i k : ℕ) → ReadsFrom (execution x) b i w → k < bytes_of e.width → HasNoSource initial s before e w k → ⊥
+      not_alone w i k from lt none = by (none u.0 (source k u.0 u.1))
         where
           u : (v : EventId) × ReadsFrom (execution x) b k v
           u = writer k lt
 
           by : AreApart s.log e w u.0 ⊎ CannotGive initial s before e k u.0 → ⊥
-          by (inl are) = apart w u.0 k are from u.1
+          by (inl are) = apart w u.0 i k are from u.1
           by (inr c) = cannot k u.0 u.1 c
+
+      not_taken : (w : EventId) (k : ℕ) → ReadsFrom (execution x) b k w → CannotTake initial s before e k w → ⊥
+      not_taken w k from (inl c) = cannot k w from c
+      not_taken w k from (inr (j, lt, none)) = not_alone w k j from lt none
+
+      -- the mark of its thread is not kept
+      pub breaks_mark : BreaksMark initial s before e → KeepsMark s e x → ⊥
+      breaks_mark (n, marked, nothing) keeps = by (cases_lt arrived.0 n)
+        where
+          new : (k : ℕ) × (w : EventKey) × ReadsFrom (execution x) b k (At w) × (HasArrived s.arrived n w → ⊥)
+          new = keeps n marked
+
+          arrived : HasArrived s.arrived (length s.arrived) new.1
+          arrived = takes.from new.0 new.1 new.2
+
+          by : (arrived.0 < n) ⊎ (n ≤ arrived.0) → ⊥
+          by (inl less) = new.3 (arrived.0, less, arrived.2)
+          by (inr most) =
+              let lt = subst (λ m. new.0 < m) count (slice_get_within ((execution x).writers_of b) new.0 (At new.1) new.2) in
+              not_taken (At new.1) new.0 new.2 (nothing arrived.0 new.1 most arrived.2 new.0 lt)
+
+      not_begin : (w : EventId) → ReadsFrom (execution x) b 0 w → CannotBegin initial s before e w → ⊥
+      not_begin w from (inl c) = cannot 0 w from c
+      not_begin w from (inr (inl t)) = taken w from t
+      not_begin w from (inr (inr (k, lt, none))) = not_alone w 0 k from lt none
 
       -- the writer of the lowest byte
       first : (w : EventId) × ReadsFrom (execution x) b 0 w

@@ -15,7 +15,7 @@ use Rattle.wm_event.specs.declared.event.EventKey.{EventKey}
 use Rattle.wm_event.specs.declared.log.Start.{Start}
 use Rattle.wm_event.specs.declared.log.ThreadLog.{ThreadLog}
 use Rattle.wm_explore.specs.Executions.{IsExecutionOf}
-use Rattle.wm_explore.specs.Past.{FindsPast, HasState, IsPastOf, KnowsPast, TakesNext}
+use Rattle.wm_explore.specs.Past.{FindsPast, HasState, IsPastOf, KeepsMark, KnowsPast, TakesNext}
 use Rattle.wm_explore.specs.States.{GoesOn, HasArrived, IsChild, IsState, count_in, with_last}
 use Rattle.wm_explore.specs.declared.past.Past.{Past}
 use Rattle.wm_explore.specs.declared.state.State.{State}
@@ -135,6 +135,13 @@ module _ (s : State) (k : ℕ) (t : ThreadLog) (is : slice_get s.log k ≡ Some 
         by x has i b d (inr old_b) (inl last_d) = absurd (let lt = slice_get_within s.arrived i b old_b in let here = last_d.0 in let count = knows.count in omega (arith, lt, here, count))
         by x has i b d (inl last_b) (inr old_d) = absurd (let lt = slice_get_within s.pasts i d old_d in let here = last_b.0 in let count = knows.count in omega (arith, lt, here, count))
 
-    -- no execution goes on from it
-    pub forbidden : FindsPast initial s e None → (m : Module) (x : LoggedRun) → IsState starts child → IsExecutionOf m starts x → x.initial ≡ initial → GoesOn x child → ⊥
-    forbidden none m x fine_child is_execution memory on = none x (takes_next x (has_state m starts initial child x fine_child is_execution memory on))
+    -- an execution that goes on from the state takes a byte of the next event from one that the mark doesn't count
+    keeps_mark : (x : LoggedRun) → GoesOn x s → KeepsMark s e x
+    keeps_mark x on n marked =
+        let missed = on.marks k n (ap (λ (key : EventKey). slice_get s.marks key.thread) (sym named) ∙ marked) in
+        let key : record { thread = k; number = count_in s.log k } ≡ key_of e = ap (λ i. record { thread = k; number = i }) (count_at s.log k t is) ∙ sym named in
+        (missed.0, missed.1, subst (λ b. ReadsFrom (execution x) b missed.0 (At missed.1)) key missed.2, missed.3)
+
+    -- no execution goes on from the state and from it
+    pub forbidden : FindsPast initial s e None → (m : Module) (x : LoggedRun) → IsState starts child → IsExecutionOf m starts x → x.initial ≡ initial → GoesOn x s → GoesOn x child → ⊥
+    forbidden none m x fine_child is_execution memory on on_child = none x (takes_next x (has_state m starts initial child x fine_child is_execution memory on_child)) (keeps_mark x on)

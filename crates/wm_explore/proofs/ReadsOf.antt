@@ -125,12 +125,12 @@ module _ (m : Module) (starts : List Start) (events : ℕ) (s : State) (fine : I
   module _ (q next : Progress) (n r : ℕ) (at_r : slice_get values n ≡ Some r) (so : ReadSoFar m starts events s k op p q values n) (same_finished : next.finished ≡ q.finished) (same_met : next.met ≡ q.met)
       (t : ThreadLog) (at_t : slice_get s.log k ≡ Some t) (child : State) (is_child : IsChild k (event_made (record { thread = k; number = length t.events }) op r) s child) where
     -- an execution that reads one of the values
-    module _ (more : IsMore events q next) (here : (x : LoggedRun) → IsExecutionOf m starts x → GoesOn x child → Covers events next x) where
+    module _ (more : IsMore events q next) (here : (x : LoggedRun) → IsExecutionOf m starts x → GoesOn x s → GoesOn x child → Covers events next x) where
       reads_one_more : (i v : ℕ) → i < n + 1 → slice_get values i ≡ Some v → (x : LoggedRun) → IsExecutionOf m starts x → IsCausal (execution x) → (on : GoesOn x s) (u : ThreadLog) (at : slice_get s.log k ≡ Some u)
           → ReadsNext x s on k u at op v → Covers events next x
       reads_one_more i v lt at_v x is causal on u at =
           one_more_any (λ j w. ReadsNext x s on k u at op w → Covers events next x) values n
-          (λ w at_w reads. here x is (goes_on_child r t at_t child is_child x on u at (subst (ReadsNext x s on k u at op) (same_Some w r (sym at_w ∙ at_r)) reads)))
+          (λ w at_w reads. here x is on (goes_on_child r t at_t child is_child x on u at (subst (ReadsNext x s on k u at op) (same_Some w r (sym at_w ∙ at_r)) reads)))
           (λ j w below at_w reads. covers_more events q next more x (so.reads j w below at_w x is causal on u at reads)) i v lt at_v
 
     read_pushed : IsNoted m child → next.work.items ≡ q.work.items ++ child ∷ [] → ReadSoFar m starts events s k op p next values (n + 1)
@@ -139,7 +139,7 @@ module _ (m : Module) (starts : List Start) (events : ℕ) (s : State) (fine : I
           (is_state s k t at_t (event_made (record { thread = k; number = length t.events }) op r) refl starts fine child is_child) knows;
       keeps = λ x is causal covers. covers_more events q next (pushed_more m starts events q next same_finished same_met child pushed) x (so.keeps x is causal covers);
       waits = λ x is causal on u at lacks. covers_more events q next (pushed_more m starts events q next same_finished same_met child pushed) x (so.waits x is causal on u at lacks);
-      reads = reads_one_more (pushed_more m starts events q next same_finished same_met child pushed) (λ x is on. pushed_left m starts events q next same_finished same_met child pushed x on);
+      reads = reads_one_more (pushed_more m starts events q next same_finished same_met child pushed) (λ x is _ on. pushed_left m starts events q next same_finished same_met child pushed x on);
     }
 
     same_more : next.work.items ≡ q.work.items → IsMore events q next
@@ -149,8 +149,8 @@ module _ (m : Module) (starts : List Start) (events : ℕ) (s : State) (fine : I
       met = λ log why. subst (λ b. IsExcused events b log) (sym same_met) why;
     }
 
-    -- no execution goes on from the child
-    read_dropped : next.work.items ≡ q.work.items → ((x : LoggedRun) → IsExecutionOf m starts x → GoesOn x child → ⊥) → ReadSoFar m starts events s k op p next values (n + 1)
+    -- no execution goes on from the state and from the child
+    read_dropped : next.work.items ≡ q.work.items → ((x : LoggedRun) → IsExecutionOf m starts x → GoesOn x s → GoesOn x child → ⊥) → ReadSoFar m starts events s k op p next values (n + 1)
     read_dropped same_work none = record {
       progress = record {
         states = subst (All (IsState starts)) (sym same_work) so.progress.states;
@@ -160,11 +160,11 @@ module _ (m : Module) (starts : List Start) (events : ℕ) (s : State) (fine : I
       };
       keeps = λ x is causal covers. covers_more events q next (same_more same_work) x (so.keeps x is causal covers);
       waits = λ x is causal on u at lacks. covers_more events q next (same_more same_work) x (so.waits x is causal on u at lacks);
-      reads = reads_one_more (same_more same_work) (λ x is on. absurd (none x is on));
+      reads = reads_one_more (same_more same_work) (λ x is on on_child. absurd (none x is on on_child));
     }
 
     read_pruned : next.work.items ≡ q.work.items → (initial : List ℕ) → IsInit m initial → ((w : Witness) → IsAllowedWith child.log initial w → LooksBack (execution (run_with child.log initial w)) child.arrived → ⊥) → ReadSoFar m starts events s k op p next values (n + 1)
-    read_pruned same_work initial is_init none = read_dropped same_work (λ x is on.
+    read_pruned same_work initial is_init none = read_dropped same_work (λ x is _ on.
         let w = permitted m starts x child is (is_state s k t at_t (event_made (record { thread = k; number = length t.events }) op r) refl starts fine child is_child) on in
         let same : x.initial ≡ initial = one_init m x.initial initial is.initial is_init in
         none w.0 (subst (λ i. IsAllowedWith child.log i w.0) same w.1) (subst (λ i. LooksBack (execution (run_with child.log i w.0)) child.arrived) same w.2))
@@ -185,8 +185,8 @@ module _ (m : Module) (starts : List Start) (events : ℕ) (s : State) (fine : I
   read_any q next n r at_r so same_finished same_met t at_t noted nexts are initial is_init (inl (child, made, added)) =
       read_more q next n r at_r so same_finished same_met t at_t child made.is_child (made_noted m starts initial nexts k (event_made (record { thread = k; number = length t.events }) op r) s child t at_t refl fine made noted are is_init) initial is_init added
   read_any q next n r at_r so same_finished same_met t at_t noted nexts are initial is_init (inr (same_work, none)) =
-      read_dropped q next n r at_r so same_finished same_met t at_t child is_child same_work (λ x is on.
-      forbidden s k t at_t e refl starts fine child is_child initial (none (noted.past initial is_init)) m x (is_state s k t at_t e refl starts fine child is_child) is (one_init m x.initial initial is.initial is_init) on)
+      read_dropped q next n r at_r so same_finished same_met t at_t child is_child same_work (λ x is on on_child.
+      forbidden s k t at_t e refl starts fine child is_child initial (none (noted.past initial is_init)) m x (is_state s k t at_t e refl starts fine child is_child) is (one_init m x.initial initial is.initial is_init) on on_child)
     where
       e : Event
       e = event_made (record { thread = k; number = length t.events }) op r

@@ -1,5 +1,5 @@
 -- What surely holds of the events of a state: in each execution that has them.
-use Rattle.std.specs.Prelude.{◌≡◌, ◌≢◌, ℕ, ◌+◌, ◌<◌, ◌⊎◌, List, Option, None, Some, IsSome, IsTrue, ⊤, length, slice_get}
+use Rattle.std.specs.Prelude.{◌≡◌, ◌≢◌, ℕ, ◌+◌, ◌<◌, ◌≤◌, ◌⊎◌, List, Option, None, Some, IsSome, IsTrue, ⊤, length, slice_get}
 use Rattle.wm_access.specs.AccessWidth.{bytes_of}
 use Rattle.wm_event.specs.Byte.{byte_of}
 use Rattle.wm_event.specs.Event.{is_atomic, key_of, range_of, writes}
@@ -61,9 +61,13 @@ pub record KnowsPast (initial : List ℕ) (s : State) : Type 0 where
   pub count : length s.pasts ≡ length s.arrived
   pub past : (x : LoggedRun) → HasState initial s x → (i : ℕ) (b : EventKey) (p : Past) → slice_get s.arrived i ≡ Some b → slice_get s.pasts i ≡ Some p → IsPastOf x b p
 
--- None: no execution has e next; or what surely holds of it
+-- it takes some byte of e from an event that the mark of e's thread doesn't count, if there is one
+abbrev pub KeepsMark : State → Event → LoggedRun → Type 0
+KeepsMark s e x = (n : ℕ) → slice_get s.marks e.thread ≡ Some (Some n) → (k : ℕ) × (w : EventKey) × ReadsFrom (execution x) (key_of e) k (At w) × (HasArrived s.arrived n w → ⊥)
+
+-- None: no execution that keeps the mark has e next; or what surely holds of it
 abbrev pub FindsPast : List ℕ → State → Event → Option Past → Type 0
-FindsPast initial s e None = (x : LoggedRun) → TakesNext initial s e x → ⊥
+FindsPast initial s e None = (x : LoggedRun) → TakesNext initial s e x → KeepsMark s e x → ⊥
 FindsPast initial s e (Some p) = (x : LoggedRun) → TakesNext initial s e x → IsPastOf x (key_of e) p
 
 -- ---- the next event's thread
@@ -126,13 +130,29 @@ pub record AreApart (log : List ThreadLog) (e : Event) (w u : EventId) : Type 0 
   pub second : IsLike log e u
   pub other : u ≢ w
 
--- byte k of e isn't from u if its lowest byte is from w
+-- byte k of e isn't from u if another is from w
 abbrev pub CannotGiveBeside : List ℕ → State → Clock → Event → EventId → ℕ → EventId → Type 0
 CannotGiveBeside initial s c e w k u = AreApart s.log e w u ⊎ CannotGive initial s c e k u
 
--- byte k of e is from nothing if its lowest byte is from w
+-- byte k of e is from nothing if another is from w
 abbrev pub HasNoSource : List ℕ → State → Clock → Event → EventId → ℕ → Type 0
 HasNoSource initial s c e w k = (u : EventId) → IsSource s u → CannotGiveBeside initial s c e w k u
+
+-- byte k of e isn't from w, alone or since some byte would be from nothing
+abbrev pub CannotTake : List ℕ → State → Clock → Event → ℕ → EventId → Type 0
+CannotTake initial s c e k w = CannotGive initial s c e k w ⊎ ((j : ℕ) × (j < bytes_of e.width) × HasNoSource initial s c e w j)
+
+-- no byte of e is from w
+abbrev pub TakesNothing : List ℕ → State → Clock → Event → EventId → Type 0
+TakesNothing initial s c e w = (k : ℕ) → k < bytes_of e.width → CannotTake initial s c e k w
+
+-- or from an event that is not among the first n that arrived
+abbrev pub TakesNothingNew : List ℕ → State → Clock → Event → ℕ → Type 0
+TakesNothingNew initial s c e n = (i : ℕ) (w : EventKey) → n ≤ i → slice_get s.arrived i ≡ Some w → TakesNothing initial s c e (At w)
+
+-- the thread of e is marked, and e is not what the mark asks for
+abbrev pub BreaksMark : List ℕ → State → Clock → Event → Type 0
+BreaksMark initial s c e = (n : ℕ) × (slice_get s.marks e.thread ≡ Some (Some n)) × TakesNothingNew initial s c e n
 
 -- w is Init, or is atomic and has the range of e
 abbrev pub WouldSynchronize : List ThreadLog → Event → EventId → Type 0

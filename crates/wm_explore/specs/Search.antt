@@ -77,7 +77,8 @@ abbrev pub AddsPermitted : List ℕ → State → List State → List State → 
 AddsPermitted initial child old new =
     ((added : State) × IsAlike child added × (new ≡ old ++ added ∷ [])) ⊎ ((new ≡ old) × ((witness : Witness) → IsAllowedWith child.log initial witness → LooksBack (execution (run_with child.log initial witness)) child.arrived → ⊥))
 
--- the state with the event e of thread k was added, unless it isn't permitted; or no execution that has the state has e next
+-- the state with the event e of thread k was added, unless it isn't permitted; or no execution that has the state and keeps the
+-- mark of the thread has e next
 abbrev pub AddsRead : List ℕ → List Next → ℕ → Event → State → List State → List State → Type 0
 AddsRead initial nexts k e s old new =
     ((child : State) × IsMade initial nexts k e s child × AddsPermitted initial child old new) ⊎ ((new ≡ old) × (KnowsPast initial s → FindsPast initial s e None))

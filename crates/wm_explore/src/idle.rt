@@ -8,20 +8,20 @@ use crate::copies::first_events;
 use crate::state::State;
 use std::alloc::{AllocError, Global};
 use wm_event::{Event, MAX_STEPS, Op, ThreadLog};
-use wm_machine::{Need, Thread};
-use wm_replay::{Next, follow};
+use wm_machine::{CodePosition, Need, Thread};
+use wm_replay::{Followed, Next, follow};
 use wm_valid::ValidModule;
 
-/// The thread after the events of its log, if it makes them within [`MAX_STEPS`] steps.
+/// A thread that was run after the events of its log, if it makes them within [`MAX_STEPS`] steps.
 fn reached<'m>(
     alloc: Global,
     module: &'m ValidModule,
     stated: &ThreadLog,
     number: usize,
-) -> Result<Option<Thread<'m>>, AllocError>
+) -> Result<Option<Followed<'m>>, AllocError>
     requires { HasPlaces number stated.now.events }
-    ensures at { IfOk result (λ found. IfSome found (IsAfter «module».now number stated.now)) }
-    ensures same { IfOk result (λ found. IfSome found (λ thread. thread.module ≡ «module».now)) }
+    ensures at { IfOk result (λ found. IfSome found (λ f. IsAfter «module».now number stated.now f.thread)) }
+    ensures same { IfOk result (λ found. IfSome found (λ f. f.thread.module ≡ «module».now)) }
 {
     match follow(alloc, module, stated, number, MAX_STEPS)? {
         Err(_) => Ok(None),
@@ -29,7 +29,7 @@ fn reached<'m>(
             if followed.events < stated.events.len() {
                 return Ok(None);
             }
-            Ok(Some(followed.thread))
+            Ok(Some(followed))
         }
     }
 }
@@ -51,13 +51,18 @@ fn was_at(
     let beginning = first_events(alloc, stated, count)?;
     match reached(alloc, module, &beginning, number)? {
         None => Ok(false),
-        Some(before) => Ok(before.is_same(now)),
+        Some(before) => Ok(before.thread.is_same(now)),
     }
 }
 
 /// Whether an access makes an event if it reads the value that the event read.
 fn is_made_by(event: &Event, op: Op) -> bool {
     op.event(event.key(), event.read) == *event
+}
+
+/// Whether an event was made at this place by an access like this. Nothing rests on it but how many turns are compared.
+fn is_made_at(event: &Event, position: Option<&CodePosition>, op: Op, place: CodePosition) -> bool {
+    is_made_by(event, op) && position == Some(&place)
 }
 
 /// Where an idle turn of a thread begins that ends with the last event of its log: the number of its first event.
@@ -73,9 +78,10 @@ fn idle_from(
     let Some(now) = reached(alloc, module, stated, number)? else {
         return Ok(None);
     };
-    let Need::Access(next) = now.next() else {
+    let Need::Access(next) = now.thread.next() else {
         return Ok(None);
     };
+    let place = now.thread.position();
     let events = stated.events.as_slice();
     for later in 0..events.len() {
         let first = events.len() - 1 - later;
@@ -83,10 +89,10 @@ fn idle_from(
         if event.writes() {
             return Ok(None);
         }
-        if !is_made_by(event, next) {
+        if !is_made_at(event, now.positions.get(first), next, place) {
             continue;
         }
-        if was_at(alloc, module, stated, number, first, &now)? {
+        if was_at(alloc, module, stated, number, first, &now.thread)? {
             return Ok(Some(first));
         }
     }

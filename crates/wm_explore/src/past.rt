@@ -5,7 +5,7 @@ ghost use Rattle.wm_event.specs.Rules.{IsTearFree};
 ghost use Rattle.wm_event.specs.declared.event.EventId.{EventId};
 ghost use Rattle.wm_event.specs.declared.event.Event.{Event};
 ghost use Rattle.wm_event.specs.declared.event.EventId.TheVariants.{At, Init};
-ghost use Rattle.wm_explore.specs.Past.{AreApart, AreGainedAt, CannotBegin, CannotGive, CannotGiveBeside, FindsCommon, FindsFor, FindsPast, HasNoSource, Hides, IsAfter, IsEarlier, IsLike, IsRival, IsTaken, IsThreadPast, IsUpdateLike, KnowsPast, WouldSynchronize, left_by};
+ghost use Rattle.wm_explore.specs.Past.{AreApart, AreGainedAt, BreaksMark, CannotBegin, CannotGive, CannotGiveBeside, CannotTake, FindsCommon, FindsFor, FindsPast, HasNoSource, Hides, IsAfter, IsEarlier, IsLike, IsRival, IsTaken, IsThreadPast, IsUpdateLike, KnowsPast, TakesNothing, TakesNothingNew, WouldSynchronize, left_by};
 
 use crate::clock::Clock;
 use crate::state::State;
@@ -389,6 +389,76 @@ fn common_past(state: &State, initial: &Initial, before: &Clock, next: &Event) -
     common
 }
 
+/// Whether the next event can take a byte from a source: each other byte has a source beside that.
+fn can_take(
+    state: &State,
+    initial: &Initial,
+    before: &Clock,
+    next: &Event,
+    byte: u8,
+    source: EventId,
+) -> bool
+    requires { byte < 8 }
+    ensures { result ≡ false → CannotTake initial.now state.now before.now next.now byte source }
+{
+    if !can_give(state, initial, before, next, byte, source) {
+        return false;
+    }
+    for other in 0..next.width.bytes() {
+        if !has_source(state, initial, before, next, source, other) {
+            return false;
+        }
+    }
+    true
+}
+
+/// Whether the next event can take some byte from a source.
+fn can_take_any(
+    state: &State,
+    initial: &Initial,
+    before: &Clock,
+    next: &Event,
+    source: EventId,
+) -> bool
+    ensures { result ≡ false → TakesNothing initial.now state.now before.now next.now source }
+{
+    for byte in 0..next.width.bytes() {
+        if can_take(state, initial, before, next, byte, source) {
+            return true;
+        }
+    }
+    false
+}
+
+/// Whether the next event can take some byte from an event that is not among the first `count` that arrived.
+fn can_take_new(
+    state: &State,
+    initial: &Initial,
+    before: &Clock,
+    next: &Event,
+    count: usize,
+) -> bool
+    ensures { result ≡ false → TakesNothingNew initial.now state.now before.now next.now count }
+{
+    let arrived = state.arrived.as_slice();
+    for place in count..arrived.len() {
+        if can_take_any(state, initial, before, next, EventId::At(arrived[place])) {
+            return true;
+        }
+    }
+    false
+}
+
+/// Whether the next event can be what the mark of its thread asks for, if there is one.
+fn can_keep_mark(state: &State, initial: &Initial, before: &Clock, next: &Event) -> bool
+    ensures { result ≡ false → BreaksMark initial.now state.now before.now next.now }
+{
+    match state.mark(next.thread as usize) {
+        None => true,
+        Some(count) => can_take_new(state, initial, before, next, count),
+    }
+}
+
 /// What surely holds of an event that is added to a state, by the order of its thread.
 pub(crate) fn past_of_write(state: &State, next: EventKey) -> Past
     ensures { (initial : List ℕ) (e : Event) → key_of e ≡ next → KnowsPast initial state.now → FindsPast initial state.now e (Some result) }
@@ -399,7 +469,8 @@ pub(crate) fn past_of_write(state: &State, next: EventKey) -> Past
     }
 }
 
-/// What surely holds of an event that is added to a state; None if no valid execution has it there.
+/// What surely holds of an event that is added to a state; None if no valid execution that keeps the mark of its thread has
+/// it there.
 pub(crate) fn past_of(state: &State, initial: &Initial, next: &Event) -> Option<Past>
     ensures { KnowsPast initial.now state.now → FindsPast initial.now state.now next.now result }
 {
@@ -407,6 +478,9 @@ pub(crate) fn past_of(state: &State, initial: &Initial, next: &Event) -> Option<
         return Some(past_of_write(state, next.key()));
     }
     let before = before_next(state, next.key());
+    if !can_keep_mark(state, initial, &before, next) {
+        return None;
+    }
     match common_past(state, initial, &before, next) {
         None => None,
         Some(common) => Some(Past {

@@ -193,7 +193,8 @@ fn add_permitted(
     Ok(())
 }
 
-/// Adds the state in which a thread has one more event, which reads, unless no valid execution has it there.
+/// Adds the state in which a thread has one more event, which reads, unless no valid execution that keeps the mark of the
+/// thread has it there.
 fn add_read(
     alloc: Global,
     initial: &Initial,

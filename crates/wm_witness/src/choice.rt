@@ -216,8 +216,8 @@ fn is_overwritten(
     false
 }
 
-/// Whether a writer is known not to be that of a byte of a read.
-pub(crate) fn is_excluded(
+/// Whether a writer isn't that of a byte of a read by what is known to happen before what.
+fn is_out_of_time(
     start: &Candidate,
     assumed: &[Assumption],
     happens: &Relation,
@@ -239,10 +239,41 @@ pub(crate) fn is_excluded(
             return true;
         }
     }
-    if is_denied(start, assumed, event.key(), byte, writer) {
-        return true;
-    }
     is_overwritten(start, assumed, happens, event, byte, writer)
+}
+
+/// Whether a writer is known not to be that of a byte of a read.
+pub(crate) fn is_excluded(
+    start: &Candidate,
+    assumed: &[Assumption],
+    happens: &Relation,
+    event: &Event,
+    byte: u8,
+    writer: EventId,
+) -> bool
+    requires rows { AreRows start.now assumed.now happens.now.kind happens.now.rows.items }
+    requires kind { happens.now.kind ≡ Happens }
+    requires event { IsEventOf start.now event.now }
+    ensures { IsTrue result → IsExcluded start.now assumed.now (key_of event.now) byte writer }
+{
+    is_denied(start, assumed, event.key(), byte, writer)
+        || is_out_of_time(start, assumed, happens, event, byte, writer)
+}
+
+/// Whether a byte of a read isn't from a writer, whatever happens before what: it doesn't fit the byte, or an assumption says so.
+pub(crate) fn is_never_from(
+    start: &Candidate,
+    assumed: &[Assumption],
+    event: &Event,
+    byte: u8,
+    writer: EventId,
+) -> bool
+    requires event { IsEventOf start.now event.now }
+    requires byte { byte < 8 }
+    ensures { IsTrue result → IsExcluded start.now assumed.now (key_of event.now) byte writer }
+{
+    let _log = start.log();
+    !fits(start, event, byte, writer) || is_denied(start, assumed, event.key(), byte, writer)
 }
 
 /// Whether a byte of a read isn't from a writer: it doesn't fit the byte, or is known not to be its writer.
@@ -260,8 +291,8 @@ pub(crate) fn isnt_from(
     requires byte { byte < 8 }
     ensures { IsTrue result → IsExcluded start.now assumed.now (key_of event.now) byte writer }
 {
-    let _log = start.log();
-    !fits(start, event, byte, writer) || is_excluded(start, assumed, happens, event, byte, writer)
+    is_never_from(start, assumed, event, byte, writer)
+        || is_out_of_time(start, assumed, happens, event, byte, writer)
 }
 
 /// Whether a writer fits a byte of a read, and isn't known not to be that of it.

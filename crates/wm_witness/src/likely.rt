@@ -71,11 +71,11 @@ pub(crate) fn raise(rows: &mut [Row], from: usize, into: usize) -> bool {
         return false;
     }
     let row = rows[into];
-    let joined = row.joined(&rows[from]);
-    if joined.before == row.before {
+    let other = rows[from];
+    if row.includes(&other) {
         return false;
     }
-    rows[into] = joined;
+    rows[into] = row.joined(&other);
     true
 }
 

@@ -12,6 +12,8 @@ pub(crate) struct Links {
     next: Vec<Option<usize>>,
     /// The places of the rows.
     pub order: Vec<usize>,
+    /// Whether each row comes after all that lead to it.
+    pub is_sorted: bool,
 }
 
 impl Links {
@@ -46,6 +48,7 @@ impl Links {
             first,
             next,
             order: Vec::new(alloc),
+            is_sorted: true,
         };
         links.schedule(alloc, relation, pairs)?;
         Ok(links)
@@ -135,6 +138,9 @@ impl Links {
                 break;
             }
             is_forced = !is_new;
+            if is_forced {
+                self.is_sorted = false;
+            }
         }
         Ok(())
     }

@@ -81,6 +81,9 @@ fn last_before(
         return None;
     }
     let count = relation.count(relation.index(event)?, thread) as usize;
+    if count == 0 {
+        return None;
+    }
     let writes = start.thread_atomic_writes(thread, range);
     let place = writes.partition_point(|write| write.place < count);
     if place == 0 {
@@ -97,11 +100,16 @@ fn first_after(
     thread: usize,
     event: EventKey,
 ) -> Option<EventKey> {
-    if thread >= start.log().threads().len() {
+    if thread >= start.log().threads().len() || !relation.ends_after(thread, event) {
         return None;
     }
     let writes = start.thread_atomic_writes(thread, range);
-    let place = writes.partition_point(|write| !relation.counts(thread, write.place, event));
+    let place = if thread == event.thread as usize {
+        let number = event.number as usize;
+        writes.partition_point(|write| write.place <= number)
+    } else {
+        writes.partition_point(|write| !relation.counts(thread, write.place, event))
+    };
     key_at(thread, writes.get(place)?.place)
 }
 

@@ -108,6 +108,18 @@ impl Relation {
         }
     }
 
+    /// Whether the last event of a thread counts another event. If it doesn't, none of the thread does.
+    pub(crate) fn ends_after(&self, thread: usize, other: EventKey) -> bool {
+        let end = match self.starts.get(thread.saturating_add(1)) {
+            Some(end) => *end,
+            None => self.rows.len(),
+        };
+        match self.rows.get(end.saturating_sub(1)) {
+            Some(row) => row.covers(other),
+            None => false,
+        }
+    }
+
     /// Whether an event is known to come before another.
     pub(crate) fn has(&self, start: &Candidate, assumed: &[Assumption], pair: Pair) -> bool
         requires { AreRows start.now assumed.now self.now.kind self.now.rows.items }
@@ -131,11 +143,11 @@ impl Relation {
         ensures size { length self.new.rows.items ≡ length self.old.rows.items }
     {
         let row = self.rows[into];
-        let joined = row.joined(&self.rows[from]);
-        if joined.before == row.before {
+        let other = self.rows[from];
+        if row.includes(&other) {
             return false;
         }
-        self.rows[into] = joined;
+        self.rows[into] = row.joined(&other);
         true
     }
 
@@ -241,7 +253,10 @@ impl Relation {
     {
         let links = Links::of(alloc, self, pairs)?;
         for _ in 0..self.rows.len() {
-            if !self.join_all(start, assumed, pairs, &links) || self.has_cycle(start, assumed) {
+            if !self.join_all(start, assumed, pairs, &links)
+                || links.is_sorted
+                || self.has_cycle(start, assumed)
+            {
                 break;
             }
         }

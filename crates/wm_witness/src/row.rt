@@ -43,6 +43,16 @@ impl Row {
         event.number < self.count(event.thread)
     }
 
+    /// Whether it counts all that another counts, and the event of that one. Nothing rests on it.
+    pub(crate) fn includes(&self, other: &Row) -> bool {
+        for lane in 0..MAX_THREADS {
+            if self.before[lane] < other.before[lane] {
+                return false;
+            }
+        }
+        self.covers(other.key)
+    }
+
     /// The row that counts also what another counts, and the event of that one with those before it in its thread.
     pub(crate) fn joined(&self, other: &Row) -> Self
         ensures key { result.key ≡ self.now.key }

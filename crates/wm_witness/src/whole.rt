@@ -9,7 +9,7 @@ ghost use Rattle.wm_witness.specs.Relations.{AreRows};
 ghost use Rattle.wm_witness.specs.declared.relation.Kind.TheVariants.{Happens};
 
 use crate::assumption::Assumption;
-use crate::choice::{Choice, isnt_from};
+use crate::choice::{Choice, is_never_from, isnt_from};
 use crate::offers::Offers;
 use crate::relation::Relation;
 use wm_event::{Candidate, Event, EventId};
@@ -44,7 +44,8 @@ pub(crate) fn is_never_from_init(
     true
 }
 
-/// Whether some byte of a read isn't from a writer.
+/// Whether some byte of a read isn't from a writer. What happens before what is only looked at for its first byte: it says the
+/// same of all bytes of a range that is written only as a whole.
 fn is_out(
     start: &Candidate,
     assumed: &[Assumption],
@@ -59,7 +60,12 @@ fn is_out(
     ensures { IsTrue result → IsOutOfRead start.now assumed.now event.now writer }
 {
     for byte in 0..event.width.bytes() {
-        if isnt_from(start, assumed, happens, event, byte, writer) {
+        let is_not = if byte == 0 {
+            isnt_from(start, assumed, happens, event, byte, writer)
+        } else {
+            is_never_from(start, assumed, event, byte, writer)
+        };
+        if is_not {
             return true;
         }
     }

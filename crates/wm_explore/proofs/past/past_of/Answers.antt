@@ -1,17 +1,26 @@
-use Rattle.std.proofs.Common.{◌≡◌, ◌≤◌, None, Some, inl, inr, sym, subst, ◌∙◌}
+use Rattle.std.proofs.Common.{◌≡◌, ◌≤◌, Some, inl, inr, sym, subst, ◌∙◌}
 use Rattle.std.specs.Prelude.{◌⊎◌}
-use Rattle.wm_event.specs.Event.{key_of, reads}
+use Rattle.wm_event.specs.Event.{key_of}
 use Rattle.wm_event.specs.HappensBefore.{HappensBefore}
 use Rattle.wm_event.specs.LoggedRun.{execution}
 use Rattle.wm_event.specs.declared.event.EventId.TheVariants.{At}
 use Rattle.wm_event.specs.declared.event.EventKey.{EventKey}
 use Rattle.wm_explore.specs.Clocks.{Counts}
 use Rattle.wm_explore.specs.Past.{FindsCommon, IsBefore, IsThreadPast}
-use Rattle.wm_explore.proofs.PastLaw.{common_before, common_from, finds_none, own_past, thread_past}
+use Rattle.wm_explore.proofs.PastLaw.{breaks_mark, common_before, common_from, finds_none, own_past, thread_past}
 use Rattle.wm_explore.proofs.past.past_of.Goals as goal
 
+pub returns-then-not-can_keep_mark : goal.returns-then-not-can_keep_mark
+returns-then-not-can_keep_mark c knows x takes =
+    let s = c.args.state.now in
+    let e = c.args.next.now in
+    let before = c.before_next-before.result in
+    let past = subst (λ b. IsThreadPast s b before) c.key-2.ensures c.before_next-before.ensures in
+    breaks_mark c.args.initial.now s e knows x takes before (thread_past c.args.initial.now s e knows x takes before past) (sym c.reads.ensures ∙ c.if-not-reads.false)
+    (c.can_keep_mark.ensures c.if-not-can_keep_mark.true)
+
 pub returns-in-None : goal.returns-in-None
-returns-in-None c knows x takes =
+returns-in-None c knows x takes _ =
     let s = c.args.state.now in
     let e = c.args.next.now in
     let before = c.before_next-before.result in

@@ -16,6 +16,6 @@ returns-clause-rows c =
     let is-other : other ≡ get_or rows c.args.from other = c.index-2.ensures in
     let good : IsRow run assumed kind row = subst (IsRow run assumed kind) (sym is-row) (c.requires.rows c.args.into row c.requires.into) in
     let good-other : IsRow run assumed kind other = subst (IsRow run assumed kind) (sym is-other) (c.requires.rows c.args.from other c.requires.from) in
-    All-set (IsRow run assumed kind) rows c.args.into c.joined-joined.result
-    (joined-row run assumed kind row other c.joined-joined.result good good-other (c.requires.before other row is-other is-row) c.joined-joined.ensures.key c.joined-joined.ensures.covers)
+    All-set (IsRow run assumed kind) rows c.args.into c.joined.result
+    (joined-row run assumed kind row other c.joined.result good good-other (c.requires.before other row is-other is-row) c.joined.ensures.key c.joined.ensures.covers)
     c.requires.rows
