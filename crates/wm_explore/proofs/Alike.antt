@@ -1,5 +1,5 @@
 -- Logs with the same events: starts, ends and steps play no part in the rules.
-use Rattle.std.proofs.Common.{◌≡◌, ℕ, ◌+◌, ◌≤◌, List, [], ◌∷◌, get_or, length, map, Option, Some, None, IsSome, refl, sym, ap, subst, ◌∙◌}
+use Rattle.std.proofs.Common.{◌≡◌, ℕ, suc, ◌+◌, ◌≤◌, List, [], ◌∷◌, get_or, length, map, Option, Some, None, IsSome, refl, sym, ap, subst, ◌∙◌, arith}
 use Rattle.std.specs.Prelude.{option_and_then, slice_get, sum_by, All}
 use Rattle.std.specs.Option.{option_map}
 use Rattle.std.proofs.lemmas.List.Sums.{sum_by-cons}
@@ -20,6 +20,14 @@ use Rattle.wm_explore.specs.Judging.{IsAllowedWith, run_with}
 -- the events of each thread
 abbrev pub events_of : List ThreadLog → List (List Event)
 events_of log = map (λ t. t.events) log
+
+-- of two logs whose threads have the same events
+pub each_alike : (us cs : List ThreadLog) → length us ≡ length cs → ((k : ℕ) (u c : ThreadLog) → slice_get us k ≡ Some u → slice_get cs k ≡ Some c → u.events ≡ c.events) → events_of us ≡ events_of cs
+each_alike [] [] count each = refl
+each_alike [] (c ∷ cs) count each = absurd (omega (arith, count))
+each_alike (u ∷ us) [] count each = absurd (omega (arith, count))
+each_alike (u ∷ us) (c ∷ cs) count each =
+    ap (λ (es : List Event). es ∷ events_of us) (each 0 u c refl refl) ∙ ap (λ (ess : List (List Event)). c.events ∷ ess) (each_alike us cs (omega (arith, count)) (λ k. each (suc k)))
 
 event_by : (log : List ThreadLog) (key : EventKey) → event_in log key ≡ option_and_then (λ es. slice_get es key.number) (slice_get (events_of log) key.thread)
 event_by log key = by (slice_get log key.thread) refl

@@ -1,10 +1,9 @@
 -- A state in which each thread has ended, and its completion.
-use Rattle.std.proofs.Common.{◌≡◌, ℕ, suc, ◌<◌, ◌≤◌, List, [], ◌∷◌, length, inl, inr, Some, refl, sym, ap, ◌∙◌, arith}
+use Rattle.std.proofs.Common.{◌≡◌, ℕ, ◌<◌, ◌≤◌, List, length, inl, inr, Some, sym, ap, ◌∙◌, arith}
 use Rattle.std.specs.Prelude.{◌⊎◌, slice_get}
 use Rattle.std.proofs.lemmas.Bool.{cases_order}
 use Rattle.std.proofs.lemmas.Option.{same_Some, slice_get_within}
 use Rattle.wm_ast.specs.declared.module.Module.{Module}
-use Rattle.wm_event.specs.declared.event.Event.{Event}
 use Rattle.wm_event.specs.declared.log.Start.{Start}
 use Rattle.wm_event.specs.declared.log.ThreadLog.{ThreadLog}
 use Rattle.wm_event.specs.LoggedRun.{LoggedRun}
@@ -19,7 +18,7 @@ use Rattle.wm_explore.specs.Executions.{IsExecutionOf, IsFinished, ends_of}
 use Rattle.wm_explore.specs.States.{GoesOn}
 use Rattle.wm_explore.specs.Turns.{EachEndsIn}
 use Rattle.wm_explore.specs.declared.state.State.{State}
-use Rattle.wm_explore.proofs.Alike.{events_of}
+use Rattle.wm_explore.proofs.Alike.{each_alike, events_of}
 use Rattle.wm_explore.proofs.Beginnings.{ended_run, first_thread, whole_thread}
 use Rattle.wm_explore.proofs.Ends.{end_at, same_ends}
 use Rattle.wm_explore.proofs.Turning.{item_within}
@@ -75,16 +74,9 @@ module _ (m : Module) (starts : List Start) (x : LoggedRun) (s : State) (is : Is
 
     -- and has its events
     pub same_events_too : events_of x.log ≡ events_of completed
-    same_events_too = alike x.log completed (sym counts) (λ k u c at_u at_c.
+    same_events_too = each_alike x.log completed (sym counts) (λ k u c at_u at_c.
         let t = first_thread s.log x.log on.beginning k u at_u in
         (whole k t.0 u t.1 at_u).0 ∙ sym (completion.threads k t.0 c t.1 at_c).events)
-      where
-        alike : (us cs : List ThreadLog) → length us ≡ length cs → ((k : ℕ) (u c : ThreadLog) → slice_get us k ≡ Some u → slice_get cs k ≡ Some c → u.events ≡ c.events) → events_of us ≡ events_of cs
-        alike [] [] count each = refl
-        alike [] (c ∷ cs) count each = absurd (omega (arith, count))
-        alike (u ∷ us) [] count each = absurd (omega (arith, count))
-        alike (u ∷ us) (c ∷ cs) count each =
-            ap (λ (es : List Event). es ∷ events_of us) (each 0 u c refl refl) ∙ ap (λ (ess : List (List Event)). c.events ∷ ess) (alike us cs (omega (arith, count)) (λ k. each (suc k)))
 
   -- there is a completion
   pub has_run : (answer : ReplayAnswer) → IsWithoutRun m s.log answer → ⊥

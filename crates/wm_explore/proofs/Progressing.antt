@@ -4,7 +4,6 @@ use Rattle.std.specs.Prelude.{◌≢◌, ◌⊎◌, All, slice_get}
 use Rattle.std.proofs.lemmas.Option.{get_or_from_slice_get, slice_get-get_or, slice_get_within}
 use Rattle.wm_ast.specs.declared.module.Module.{Module}
 use Rattle.wm_event.specs.LoggedRun.{LoggedRun, execution}
-use Rattle.wm_event.specs.declared.event.Event.{Event}
 use Rattle.wm_event.specs.declared.log.Start.{Start}
 use Rattle.wm_event.specs.declared.log.ThreadLog.{ThreadLog}
 use Rattle.wm_event.specs.declared.witness.Witness.{Witness}
@@ -23,7 +22,7 @@ use Rattle.wm_explore.specs.Turns.{EachEndsIn}
 use Rattle.wm_explore.specs.declared.exploration.Finished.{Finished}
 use Rattle.wm_explore.specs.declared.search.Progress.{Progress}
 use Rattle.wm_explore.specs.declared.state.State.{State}
-use Rattle.wm_explore.proofs.Alike.{allowed_too, events_of, holds_too, same_events}
+use Rattle.wm_explore.proofs.Alike.{allowed_too, each_alike, events_of, holds_too, same_events}
 use Rattle.wm_explore.proofs.Finishing.{completed_finished, has_run, same_ends_too, same_events_too}
 use Rattle.wm_explore.proofs.Lists.{at_pushed, kept_pushed, last_pushed}
 use Rattle.wm_explore.proofs.Timing.{is_causal}
@@ -79,15 +78,8 @@ module _ (m : Module) (starts : List Start) (events : ℕ) (s : State) where
           listed (lists.0, lists.1, lists.2, lists.3 ∙ same_ends_too m starts x s is on ends completed completion))
 
       -- what completes the log has its events
-      completion_alike : (cs ts : List ThreadLog) → length cs ≡ length ts → ((k : ℕ) (c t : ThreadLog) → slice_get cs k ≡ Some c → slice_get ts k ≡ Some t → c.events ≡ t.events) → events_of cs ≡ events_of ts
-      completion_alike [] [] count each = refl
-      completion_alike [] (t ∷ ts) count each = absurd (omega (arith, count))
-      completion_alike (c ∷ cs) [] count each = absurd (omega (arith, count))
-      completion_alike (c ∷ cs) (t ∷ ts) count each =
-          ap (λ (es : List Event). es ∷ events_of cs) (each 0 c t refl refl) ∙ ap (λ (ess : List (List Event)). t.events ∷ ess) (completion_alike cs ts (omega (arith, count)) (λ k. each (suc k)))
-
       alike_here : events_of completed ≡ events_of s.log
-      alike_here = completion_alike completed s.log completion.count (λ k c t at_c at_t. (completion.threads k t c at_t at_c).events)
+      alike_here = each_alike completed s.log completion.count (λ k c t at_c at_t. (completion.threads k t c at_t at_c).events)
 
       started_too : starts_of completed ≡ starts
       started_too = same_starts completed s.log completion.count (λ k c t at_c at_t. (completion.threads k t c at_t at_c).start) ∙ fine.started

@@ -318,12 +318,7 @@ fn is_possible(
 }
 
 /// How many of some ids are of events before the last one that is known to happen before a read.
-pub(crate) fn count_past(
-    happens: &Relation,
-    event: &Event,
-    thread: usize,
-    ids: &[EventId],
-) -> usize {
+fn count_past(happens: &Relation, event: &Event, thread: usize, ids: &[EventId]) -> usize {
     let Some(index) = happens.index(event.key()) else {
         return 0;
     };

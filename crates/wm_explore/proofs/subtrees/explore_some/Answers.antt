@@ -1,4 +1,4 @@
-use Rattle.std.proofs.Common.{◌≡◌, ◌++◌, take, drop, refl, sym, ap, take-append-drop, ◌∙◌}
+use Rattle.std.proofs.Common.{◌≡◌, ◌++◌, take, refl, sym, ap, take-append-drop, ◌∙◌}
 use Rattle.wm_explore.specs.declared.search.Progress.{Progress}
 use Rattle.wm_explore.proofs.Beside.{advances_beside, may_be_left}
 use Rattle.wm_explore.proofs.subtrees.explore_some.Goals as goal
