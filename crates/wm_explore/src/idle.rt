@@ -130,6 +130,10 @@ pub(crate) fn ends_idly(
         return Ok(false);
     };
     let number = last.thread as usize;
+    // A state that waits has the events of one that was looked at before.
+    if state.known(number).is_some() {
+        return Ok(false);
+    }
     match state.log.threads().get(number) {
         None => Ok(false),
         Some(stated) => {
