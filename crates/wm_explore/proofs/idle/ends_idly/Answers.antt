@@ -18,7 +18,7 @@ returns-in_ok-idle_from-in-Some-get c is_idle =
     let m = c.args.module.now in
     let k = c.in-Some.last.now.thread in
     let t = c.in-Some-get.stated.now in
-    let one = found_one (IsIdle m k t) c.in_ok-idle_from-in-Some-get.field-0 c.in_ok-idle_from-in-Some-get.ensures (sym c.is_some.ensures ∙ is_idle) in
+    let one = found_one (IsIdle m k t) c.in_ok-idle_from-in-Some-get.field-0 c.in_ok-idle_from-in-Some-get.ensures (sym c.is_some-in-Some-get.ensures ∙ is_idle) in
     record {
       number = k;
       thread = t;
