@@ -33,6 +33,36 @@ struct Spot {
     happened: Happened,
 }
 
+/// Whether a new event has a place in the order.
+#[derive(Clone, Copy)]
+enum Fit {
+    /// It has one.
+    At(Spot),
+    /// It would have one before the event at that place, if that came later.
+    Blocked(usize),
+    /// It has none.
+    Nowhere,
+}
+
+/// Which part of an order.
+#[derive(Clone, Copy, PartialEq, Eq)]
+enum Part {
+    /// The events that an event doesn't happen before.
+    Earlier,
+    /// That event, and those that it happens before.
+    Later,
+}
+
+impl Fit {
+    /// This one, or the other if that is better.
+    fn or(self, other: Fit) -> Fit {
+        match (self, other) {
+            (Fit::Nowhere, _) | (Fit::Blocked(_), Fit::At(_)) => other,
+            _ => self,
+        }
+    }
+}
+
 /// Whether an event that takes a byte from another one synchronizes with it.
 fn synchronizes(writer: &Event, reader: &Event) -> bool {
     writer.is_atomic() && reader.is_atomic() && writer.range() == reader.range()
@@ -183,8 +213,9 @@ impl<'a> Taking<'a> {
         }
     }
 
-    /// A place in the order that the reader can have: the first one, so that the next events of its thread can have the most.
-    fn place(&self, order: &[Happened]) -> Option<usize> {
+    /// The place in the order that the reader can have: the first one, so that the next events of its thread can have the
+    /// most.
+    fn fit(&self, order: &[Happened]) -> Fit {
         let mut earliest = 0usize;
         let mut latest = order.len();
         for (place, other) in order.iter().enumerate() {
@@ -194,7 +225,7 @@ impl<'a> Taking<'a> {
             match self.room_by(place, other) {
                 Room::Free => {}
                 Room::Before => latest = latest.min(place),
-                Room::Nowhere => return None,
+                Room::Nowhere => return Fit::Nowhere,
             }
         }
         // A write in the middle could come between others.
@@ -202,16 +233,10 @@ impl<'a> Taking<'a> {
             earliest = order.len();
         }
         if latest < earliest {
-            return None;
+            return Fit::Blocked(latest);
         }
-        Some(earliest)
-    }
-
-    /// The reader at a place that it can have.
-    fn spot(&self, order: &[Happened]) -> Option<Spot> {
-        let place = self.place(order)?;
-        Some(Spot {
-            place,
+        Fit::At(Spot {
+            place: earliest,
             happened: Happened {
                 event: self.reader,
                 clock: self.clock,
@@ -233,23 +258,21 @@ fn next_clock(order: &[Happened], next: EventKey) -> Clock {
 
 /// A place for a new event that reads, which takes all bytes from the first source from which it can: so the least happens
 /// before it.
-fn reading_spot(order: &[Happened], initial: &Initial, event: Event) -> Option<Spot> {
+fn reading_fit(order: &[Happened], initial: &Initial, event: Event) -> Fit {
     let before = next_clock(order, event.key());
-    if begins_with(initial, &event)
-        && let Some(spot) = Taking::of(event, Source::Init, &before).spot(order)
-    {
-        return Some(spot);
+    let mut fit = Fit::Nowhere;
+    if begins_with(initial, &event) {
+        fit = Taking::of(event, Source::Init, &before).fit(order);
     }
     for (place, writer) in order.iter().enumerate() {
-        if leaves(&writer.event, &event)
-            && let Some(spot) = Taking::of(event, Source::From(place, writer), &before).spot(
-                order,
-            )
-        {
-            return Some(spot);
+        if let Fit::At(_) = fit {
+            return fit;
+        }
+        if leaves(&writer.event, &event) {
+            fit = fit.or(Taking::of(event, Source::From(place, writer), &before).fit(order));
         }
     }
-    None
+    fit
 }
 
 impl Hint {
@@ -267,6 +290,18 @@ impl Hint {
         })
     }
 
+    /// A place for one more event.
+    fn fit(&self, initial: &Initial, event: Event) -> Fit {
+        let order = self.order.as_slice();
+        if event.reads() {
+            return reading_fit(order, initial, event);
+        }
+        let clock = next_clock(order, event.key());
+        let place = order.len();
+        let happened = Happened { event, clock };
+        Fit::At(Spot { place, happened })
+    }
+
     /// The same with one more event; None if no place for it is found.
     pub(crate) fn with(
         &self,
@@ -274,19 +309,72 @@ impl Hint {
         initial: &Initial,
         event: Event,
     ) -> Result<Option<Self>, AllocError> {
-        let order = self.order.as_slice();
-        let spot = if event.reads() {
-            reading_spot(order, initial, event)
-        } else {
-            let clock = next_clock(order, event.key());
-            let place = order.len();
-            let happened = Happened { event, clock };
-            Some(Spot { place, happened })
-        };
-        match spot {
-            None => Ok(None),
-            Some(spot) => Ok(Some(self.inserted(alloc, &spot)?)),
+        match self.fit(initial, event) {
+            Fit::At(spot) => Ok(Some(self.inserted(alloc, &spot)?)),
+            Fit::Blocked(place) => self.delaying(alloc, initial, place, event),
+            Fit::Nowhere => Ok(None),
         }
+    }
+
+    /// Adds some events of an order, those that an event happens before or the others. Whether each has a place.
+    fn add_part(
+        &mut self,
+        alloc: Global,
+        initial: &Initial,
+        order: &[Happened],
+        first: EventKey,
+        part: Part,
+    ) -> Result<bool, AllocError> {
+        for happened in order {
+            let is_later = happened.clock.counts(first);
+            if is_later != (part == Part::Later) {
+                continue;
+            }
+            if !self.add(alloc, initial, happened.event)? {
+                return Ok(false);
+            }
+        }
+        Ok(true)
+    }
+
+    /// Adds an event. Whether it has a place.
+    fn add(&mut self, alloc: Global, initial: &Initial, event: Event) -> Result<bool, AllocError> {
+        let Fit::At(spot) = self.fit(initial, event) else {
+            return Ok(false);
+        };
+        if spot.place >= self.order.len() {
+            self.order.push(spot.happened)?;
+        } else {
+            *self = self.inserted(alloc, &spot)?;
+        }
+        Ok(true)
+    }
+
+    /// The same with one more event, where the event at a place and those that it happens before come later; None if some
+    /// event has no place then.
+    fn delaying(
+        &self,
+        alloc: Global,
+        initial: &Initial,
+        place: usize,
+        event: Event,
+    ) -> Result<Option<Self>, AllocError> {
+        let order = self.order.as_slice();
+        let Some(blocking) = order.get(place) else {
+            return Ok(None);
+        };
+        let first = blocking.event.key();
+        let mut hint = Hint::new(alloc);
+        if !hint.add_part(alloc, initial, order, first, Part::Earlier)? {
+            return Ok(None);
+        }
+        if !hint.add(alloc, initial, event)? {
+            return Ok(None);
+        }
+        if !hint.add_part(alloc, initial, order, first, Part::Later)? {
+            return Ok(None);
+        }
+        Ok(Some(hint))
     }
 
     /// The same with an event at a place.
