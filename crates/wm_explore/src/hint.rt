@@ -360,18 +360,21 @@ impl Hint {
         event: Event,
     ) -> Result<Option<Self>, AllocError> {
         let order = self.order.as_slice();
-        let Some(blocking) = order.get(place) else {
+        if place >= order.len() {
             return Ok(None);
+        }
+        let first = order[place].event.key();
+        let mut hint = Hint {
+            order: order[..place].to_vec(alloc)?,
         };
-        let first = blocking.event.key();
-        let mut hint = Hint::new(alloc);
-        if !hint.add_part(alloc, initial, order, first, Part::Earlier)? {
+        let rest = &order[place..];
+        if !hint.add_part(alloc, initial, rest, first, Part::Earlier)? {
             return Ok(None);
         }
         if !hint.add(alloc, initial, event)? {
             return Ok(None);
         }
-        if !hint.add_part(alloc, initial, order, first, Part::Later)? {
+        if !hint.add_part(alloc, initial, rest, first, Part::Later)? {
             return Ok(None);
         }
         Ok(Some(hint))
