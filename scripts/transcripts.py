@@ -14,6 +14,7 @@ import signal
 import subprocess
 import sys
 import tempfile
+import threading
 import time
 from collections.abc import Mapping, Sequence
 from typing import NamedTuple, NoReturn
@@ -24,6 +25,9 @@ from wmlabtools.transcripts import Block, Transcript
 SECONDS = 300
 # How long what a command left running has to end by itself, after Ctrl-C or SIGTERM.
 SECONDS_TO_END = 3
+# Held while files are copied or a process starts: a process that has not come to its own program yet has each file open
+# that is being written, and a file that is open for writing cannot be run.
+STARTING = threading.Lock()
 
 
 def files_of_clone(*patterns: str) -> list[str]:
@@ -36,11 +40,12 @@ def files_of_clone(*patterns: str) -> list[str]:
 def copy_clone(folder: str, program: str) -> None:
     """Copies the clone's files, and the program to where the launcher looks for the proved one: it is the newest
     file, so that the launcher takes it."""
-    for name in files_of_clone():
-        os.makedirs(os.path.dirname(f"{folder}/{name}"), exist_ok=True)
-        shutil.copy2(f"{TOP}/{name}", f"{folder}/{name}", follow_symlinks=False)
-    os.makedirs(f"{folder}/.built")
-    shutil.copy(program, f"{folder}/.built/wmlab")
+    with STARTING:
+        for name in files_of_clone():
+            os.makedirs(os.path.dirname(f"{folder}/{name}"), exist_ok=True)
+            shutil.copy2(f"{TOP}/{name}", f"{folder}/{name}", follow_symlinks=False)
+        os.makedirs(f"{folder}/.built")
+        shutil.copy(program, f"{folder}/.built/wmlab")
 
 
 class Ran(NamedTuple):
@@ -90,18 +95,23 @@ def output_of(started: subprocess.Popen[bytes]) -> bytes | None:
     return None
 
 
+def start(command: str, folder: str, home: str) -> subprocess.Popen[bytes]:
+    environment = {**os.environ, "HOME": home, "XDG_CACHE_HOME": f"{home}/.cache", "LC_ALL": "C.UTF-8"}
+    with STARTING:
+        return subprocess.Popen(
+            ["bash", "-c", command],
+            cwd=folder,
+            env=environment,
+            start_new_session=True,
+            stdin=subprocess.DEVNULL,
+            stdout=subprocess.PIPE,
+            stderr=subprocess.STDOUT,
+        )
+
+
 def run(command: str, folder: str, home: str) -> Ran | None:
     """What came of a command; None if it did not end in time."""
-    environment = {**os.environ, "HOME": home, "XDG_CACHE_HOME": f"{home}/.cache", "LC_ALL": "C.UTF-8"}
-    with subprocess.Popen(
-        ["bash", "-c", command],
-        cwd=folder,
-        env=environment,
-        start_new_session=True,
-        stdin=subprocess.DEVNULL,
-        stdout=subprocess.PIPE,
-        stderr=subprocess.STDOUT,
-    ) as started:
+    with start(command, folder, home) as started:
         RUNNING.groups.add(started.pid)
         try:
             out = output_of(started)
