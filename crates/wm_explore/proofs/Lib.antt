@@ -8,7 +8,10 @@ pub mod Beginnings
 pub mod Alike
 pub mod Children
 pub mod Permitted
+pub mod Ranges
+pub mod Places
 pub mod PastLaw
+pub mod StandingLaw
 pub mod Pasts
 pub mod Readings
 pub mod Finishing

@@ -1,5 +1,5 @@
 -- What surely holds in a state with one more event, and in one like it.
-use Rattle.std.proofs.Common.{◌≡◌, ℕ, ◌+◌, ◌≤◌, List, [], ◌∷◌, ◌++◌, length, inl, inr, None, Some, IsSome, refl, sym, ap, subst, ◌∙◌, arith}
+use Rattle.std.proofs.Common.{◌≡◌, ℕ, ◌≤◌, List, [], ◌∷◌, length, inl, inr, None, Some, IsSome, refl, sym, ap, subst, ◌∙◌, arith}
 use Rattle.std.specs.Prelude.{◌≢◌, ◌⊎◌, slice_get}
 use Rattle.std.proofs.lemmas.Bool.{cases_eq, ltb-true}
 use Rattle.std.proofs.lemmas.List.{length-append}
@@ -15,9 +15,8 @@ use Rattle.wm_event.specs.declared.event.EventKey.{EventKey}
 use Rattle.wm_event.specs.declared.log.Start.{Start}
 use Rattle.wm_event.specs.declared.log.ThreadLog.{ThreadLog}
 use Rattle.wm_explore.specs.Executions.{IsExecutionOf}
-use Rattle.wm_explore.specs.Past.{FindsPast, HasState, IsPastOf, KeepsMark, KnowsPast, TakesNext}
+use Rattle.wm_explore.specs.Past.{AreKnownWith, FindsPast, HasState, KeepsMark, KnowsPast, TakesNext}
 use Rattle.wm_explore.specs.States.{GoesOn, HasArrived, IsChild, IsState, count_in, with_last}
-use Rattle.wm_explore.specs.declared.past.Past.{Past}
 use Rattle.wm_explore.specs.declared.state.State.{State}
 use Rattle.wm_explore.proofs.Beginnings.{count_at, event_at, kept_there, same_event, there_kept, thread_of_event}
 use Rattle.wm_explore.proofs.Children.{next_key}
@@ -121,19 +120,11 @@ module _ (s : State) (k : ℕ) (t : ThreadLog) (is : slice_get s.log k ≡ Some 
           (has.back (length s.arrived) (key_of e) w j (ap (λ ks. slice_get ks (length s.arrived)) is_child.arrived ∙ last_pushed s.arrived (key_of e)) from);
     }
 
-    pub knows_child : KnowsPast initial s → (c : Past) → FindsPast initial s e (Some c) → child.pasts ≡ s.pasts ++ c ∷ [] → KnowsPast initial child
-    knows_child knows c finds pushed = record {
-      count = ap length pushed ∙ length-append s.pasts (c ∷ []) ∙ ap (λ n. n + 1) knows.count ∙ sym (length-append s.arrived (key_of e ∷ [])) ∙ ap length (sym is_child.arrived);
-      past = λ x has i b d at at_past.
-          by x has i b d (at_pushed s.arrived (key_of e) i b (ap (λ ks. slice_get ks i) (sym is_child.arrived) ∙ at)) (at_pushed s.pasts c i d (ap (λ cs. slice_get cs i) (sym pushed) ∙ at_past));
+    pub knows_child : AreKnownWith initial s e child.pasts → KnowsPast initial child
+    knows_child known = record {
+      count = known.count ∙ sym (length-append s.arrived (key_of e ∷ [])) ∙ ap length (sym is_child.arrived);
+      past = λ x has i b p at at_past. known.past x (takes_next x has) i b p (ap (λ ks. slice_get ks i) (sym is_child.arrived) ∙ at) at_past;
     }
-      where
-        by : (x : LoggedRun) → HasState initial child x → (i : ℕ) (b : EventKey) (d : Past) → ((i ≡ length s.arrived) × (b ≡ key_of e)) ⊎ (slice_get s.arrived i ≡ Some b)
-            → ((i ≡ length s.pasts) × (d ≡ c)) ⊎ (slice_get s.pasts i ≡ Some d) → IsPastOf x b d
-        by x has i b d (inr old_b) (inr old_d) = knows.past x (takes_next x has).has i b d old_b old_d
-        by x has i b d (inl last_b) (inl last_d) = subst (λ key. IsPastOf x key d) (sym last_b.1) (subst (IsPastOf x (key_of e)) (sym last_d.1) (finds x (takes_next x has)))
-        by x has i b d (inr old_b) (inl last_d) = absurd (let lt = slice_get_within s.arrived i b old_b in let here = last_d.0 in let count = knows.count in omega (arith, lt, here, count))
-        by x has i b d (inl last_b) (inr old_d) = absurd (let lt = slice_get_within s.pasts i d old_d in let here = last_b.0 in let count = knows.count in omega (arith, lt, here, count))
 
     -- an execution that goes on from the state takes a byte of the next event from one that the mark doesn't count
     keeps_mark : (x : LoggedRun) → GoesOn x s → KeepsMark s e x

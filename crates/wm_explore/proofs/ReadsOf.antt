@@ -77,7 +77,7 @@ made_noted m starts initial nexts k e s child t at_t named fine made noted are i
   nexts = made.known m are;
   past = λ other is_other.
       let same : initial ≡ other = one_init m initial other is_init is_other in
-      subst (λ i. KnowsPast i child) same (knows_child s k t at_t e named starts fine child made.is_child initial (noted.past initial is_init) made.past (made.finds (noted.past initial is_init)) made.pushed);
+      subst (λ i. KnowsPast i child) same (knows_child s k t at_t e named starts fine child made.is_child initial (made.finds (noted.past initial is_init)));
 }
 
 -- what is noted of the state that waits
@@ -98,18 +98,14 @@ pub record ReadsNext (x : LoggedRun) (s : State) (on : GoesOn x s) (k : ℕ) (t 
 pub record ReadSoFar (m : Module) (starts : List Start) (events : ℕ) (s : State) (k : ℕ) (op : OpFields) (p q : Progress) (values : List ℕ) (n : ℕ) : Type 0 where
   pub progress : IsProgress m starts q
   pub keeps : Keeps m starts events p q
-  pub waits : (x : LoggedRun) → IsExecutionOf m starts x → IsCausal (execution x) → (on : GoesOn x s) (t : ThreadLog) (at : slice_get s.log k ≡ Some t) → LacksWriter x s on k t at → Covers events q x
   pub reads : (i r : ℕ) → i < n → slice_get values i ≡ Some r → (x : LoggedRun) → IsExecutionOf m starts x → IsCausal (execution x) → (on : GoesOn x s) (t : ThreadLog) (at : slice_get s.log k ≡ Some t)
       → ReadsNext x s on k t at op r → Covers events q x
 
 module _ (m : Module) (starts : List Start) (events : ℕ) (s : State) (fine : IsState starts s) (k : ℕ) (op : OpFields) (p : Progress) (values : List ℕ) where
-  -- after the state in which the thread is marked
-  pub read_none : IsProgress m starts p → (q : Progress) → q.finished ≡ p.finished → q.met ≡ p.met → (marked : State) → q.work.items ≡ p.work.items ++ marked ∷ []
-      → marked.log ≡ s.log → marked.arrived ≡ s.arrived → IsMarked k (Some (length s.arrived)) s.marks marked.marks → IsNoted m marked → ReadSoFar m starts events s k op p q values 0
-  read_none progress q same_finished same_met marked pushed same_log same_arrived marks knows = record {
-    progress = pushed_progress m starts events p q same_finished same_met marked pushed progress (marked_is_state starts s marked k fine same_log same_arrived marks) knows;
-    keeps = λ x is causal covers. covers_more events p q (pushed_more m starts events p q same_finished same_met marked pushed) x covers;
-    waits = λ x is causal on t at lacks. pushed_left m starts events p q same_finished same_met marked pushed x (goes_on_marked x s on k t at starts fine marked same_log same_arrived marks lacks);
+  pub read_none : IsProgress m starts p → ReadSoFar m starts events s k op p p values 0
+  read_none progress = record {
+    progress = progress;
+    keeps = λ x is causal covers. covers;
     reads = λ i r lt. absurd (omega (arith, lt));
   }
 
@@ -138,7 +134,6 @@ module _ (m : Module) (starts : List Start) (events : ℕ) (s : State) (fine : I
       progress = pushed_progress m starts events q next same_finished same_met child pushed so.progress
           (is_state s k t at_t (event_made (record { thread = k; number = length t.events }) op r) refl starts fine child is_child) knows;
       keeps = λ x is causal covers. covers_more events q next (pushed_more m starts events q next same_finished same_met child pushed) x (so.keeps x is causal covers);
-      waits = λ x is causal on u at lacks. covers_more events q next (pushed_more m starts events q next same_finished same_met child pushed) x (so.waits x is causal on u at lacks);
       reads = reads_one_more (pushed_more m starts events q next same_finished same_met child pushed) (λ x is _ on. pushed_left m starts events q next same_finished same_met child pushed x on);
     }
 
@@ -159,7 +154,6 @@ module _ (m : Module) (starts : List Start) (events : ℕ) (s : State) (fine : I
         apart = subst (λ fs. AreApart fs.items) (sym same_finished) so.progress.apart;
       };
       keeps = λ x is causal covers. covers_more events q next (same_more same_work) x (so.keeps x is causal covers);
-      waits = λ x is causal on u at lacks. covers_more events q next (same_more same_work) x (so.waits x is causal on u at lacks);
       reads = reads_one_more (same_more same_work) (λ x is on on_child. absurd (none x is on on_child));
     }
 
@@ -197,21 +191,28 @@ module _ (m : Module) (starts : List Start) (events : ℕ) (s : State) (fine : I
       is_child : IsChild k e s child
       is_child = record { log = refl; arrived = refl; marks = λ i mark at. absurd (none-some mark at) }
 
-  -- after the last value
+  -- after the last value and the state in which the thread is marked
   pub reads_all : (q : Progress) (n : ℕ) → length values ≤ n → ReadSoFar m starts events s k op p q values n → kind_finds op.kind ≡ true → MakesNext m events s.log k op
-      → (initial : List ℕ) → IsInit m initial → (mark : Option ℕ) → ((c : ℕ) → mark ≡ Some c → slice_get s.marks k ≡ Some (Some c)) → ReadsAll s initial op mark values → Extends m starts events s p q
-  reads_all q n all so finds makes initial is_init mark marked each = record {
-    progress = so.progress;
-    keeps = so.keeps;
+      → (initial : List ℕ) → IsInit m initial → (mark : Option ℕ) → ((c : ℕ) → mark ≡ Some c → slice_get s.marks k ≡ Some (Some c)) → ReadsAll s initial op mark values
+      → (next : Progress) → next.finished ≡ q.finished → next.met ≡ q.met → (waiting : State) → next.work.items ≡ q.work.items ++ waiting ∷ []
+      → waiting.log ≡ s.log → waiting.arrived ≡ s.arrived → IsMarked k (Some (length s.arrived)) s.marks waiting.marks → IsNoted m waiting → Extends m starts events s p next
+  reads_all q n all so finds makes initial is_init mark marked each next same_finished same_met waiting pushed same_log same_arrived marks noted = record {
+    progress = pushed_progress m starts events q next same_finished same_met waiting pushed so.progress (marked_is_state starts s waiting k fine same_log same_arrived marks) noted;
+    keeps = λ x is causal covers. covers_more events q next more x (so.keeps x is causal covers);
     takes = λ x is causal on. takes x is causal on (has_or_lacks x s on k makes.thread makes.is_thread);
   }
     where
-      takes : (x : LoggedRun) → IsExecutionOf m starts x → IsCausal (execution x) → (on : GoesOn x s) → HasWriters x s on k makes.thread makes.is_thread ⊎ LacksWriter x s on k makes.thread makes.is_thread → Covers events q x
-      takes x is causal on (inr lacks) = so.waits x is causal on makes.thread makes.is_thread lacks
+      more : IsMore events q next
+      more = pushed_more m starts events q next same_finished same_met waiting pushed
+
+      takes : (x : LoggedRun) → IsExecutionOf m starts x → IsCausal (execution x) → (on : GoesOn x s) → HasWriters x s on k makes.thread makes.is_thread ⊎ LacksWriter x s on k makes.thread makes.is_thread → Covers events next x
+      takes x is causal on (inr lacks) =
+          pushed_left m starts events q next same_finished same_met waiting pushed x (goes_on_marked x s on k makes.thread makes.is_thread starts fine waiting same_log same_arrived marks lacks)
       takes x is causal on (inl has) =
           let u = whole_thread s.log x.log on.beginning k makes.thread makes.is_thread in
           let made : HasNextBy k makes.thread u.0 op = makes.next u.0 (ended_run m starts x s.log is on.beginning k makes.thread u.0 makes.is_thread u.1) in
           let same : initial ≡ x.initial = one_init m initial x.initial is_init is.initial in
           let read = has_value m starts x s is fine on k makes.thread u.0 op makes.is_thread u.1 finds made mark (λ c counts. on.marks k c (marked c counts)) has values (subst (λ i. ReadsAll s i op mark values) same each) in
           let within = slice_get_within values read.0 made.0 read.1 in
-          so.reads read.0 made.0 (omega (arith, all, within)) read.1 x is causal on makes.thread makes.is_thread (record { whole = u.0; is_whole = u.1; made = made.2; has = has })
+          covers_more events q next more x
+          (so.reads read.0 made.0 (omega (arith, all, within)) read.1 x is causal on makes.thread makes.is_thread (record { whole = u.0; is_whole = u.1; made = made.2; has = has }))

@@ -1,5 +1,5 @@
 -- An execution whose accesses are all atomic is causal.
-use Rattle.std.proofs.Common.{◌≡◌, ℕ, ◌+◌, ◌-◌, ◌<◌, Bool, true, false, inl, inr, [], Option, None, Some, length, refl, sym, ap, ◌∙◌, arith, nat_le, nat_lt, ◌&&◌, if◌then◌else◌}
+use Rattle.std.proofs.Common.{◌≡◌, ℕ, ◌+◌, ◌-◌, ◌<◌, true, false, inl, inr, [], Option, None, Some, length, refl, sym, ap, ◌∙◌, arith, nat_le, nat_lt, ◌&&◌, if◌then◌else◌}
 use Rattle.std.specs.Prelude.{◌⊎◌, option_and_then}
 use Rattle.std.proofs.lemmas.Bool.{and_parts, cases_Bool, leb-true, ltb-true}
 use Rattle.std.proofs.lemmas.Option.{none-some, slice_get_within}
@@ -17,6 +17,7 @@ use Rattle.wm_event.specs.declared.event.EventKey.{EventKey}
 use Rattle.wm_explore.specs.Executions.{IsCausal}
 use Rattle.wm_explore.specs.Uniform.{HasByte, IsUniform, UniformIsCausal}
 use Rattle.wm_explore.proofs.Beginnings.{some_of}
+use Rattle.wm_explore.proofs.Ranges.{read_byte}
 
 -- an event that leaves a byte has it
 left_byte : (f : Event) (a value : ℕ) → byte_written f a ≡ Some value → HasByte f a
@@ -27,10 +28,6 @@ left_byte f a value h = by (cases_Bool (writes f && (nat_le f.address a && nat_l
         let inside = and_parts (nat_le f.address a) (nat_lt a (f.address + bytes_of f.width)) (and_parts (writes f) (nat_le f.address a && nat_lt a (f.address + bytes_of f.width)) holds).1 in
         (leb-true f.address a inside.0, ltb-true a (f.address + bytes_of f.width) inside.1)
     by (inr not) = absurd (none-some value (sym (ap (λ c. if c then Some (byte_of f.written (a - f.address)) else None) not) ∙ h))
-
-read_byte : (b : Bool) (width count k : ℕ) → count ≡ (if b then width else 0) → k < count → k < width
-read_byte true width count k same lt = omega (arith, same, lt)
-read_byte false width count k same lt = absurd (omega (arith, same, lt))
 
 module _ (run : LoggedRun) (shaped : IsWellShaped run) (uniform : IsUniform (execution run)) (valid : IsValid (execution run)) where
   -- the writer of a byte comes before the reader in the order

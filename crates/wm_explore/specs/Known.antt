@@ -1,15 +1,14 @@
 -- What is noted of a state beside its events: what its threads do next, and what surely holds of each event.
-use Rattle.std.specs.Prelude.{◌≡◌, ◌≢◌, ℕ, List, [], ◌∷◌, ◌++◌, Option, Some, slice_get}
+use Rattle.std.specs.Prelude.{◌≡◌, ◌≢◌, ℕ, List, Option, Some, slice_get}
 use Rattle.wm_ast.specs.declared.module.Module.{Module}
 use Rattle.wm_event.specs.declared.log.ThreadLog.{ThreadLog}
 use Rattle.wm_replay.specs.Continuing.{ContinuesSo}
 use Rattle.wm_replay.specs.declared.continuing.Next.{Next}
 use Rattle.wm_valid.specs.Valid.{IsInit}
 use Rattle.wm_event.specs.declared.event.Event.{Event}
-use Rattle.wm_explore.specs.Past.{FindsPast, KnowsPast}
+use Rattle.wm_explore.specs.Past.{AreKnownWith, KnowsPast}
 use Rattle.wm_explore.specs.States.{IsChild}
 use Rattle.wm_explore.specs.Turns.{AreNexts}
-use Rattle.wm_explore.specs.declared.past.Past.{Past}
 use Rattle.wm_explore.specs.declared.state.State.{State}
 
 -- a thread of which it is known does that next
@@ -29,10 +28,8 @@ pub record IsNoted (m : Module) (s : State) : Type 0 where
   pub nexts : KnowsNexts m s
   pub past : (initial : List ℕ) → IsInit m initial → KnowsPast initial s
 
--- child has the event e of thread k too, where the threads of s did this next; what was noted of s is noted of it, with what holds of e
+-- child has the event e of thread k too, where the threads of s did this next; what is noted of it is right if what was noted of s was
 pub record IsMade (initial : List ℕ) (nexts : List Next) (k : ℕ) (e : Event) (s child : State) : Type 0 where
   pub is_child : IsChild k e s child
-  pub past : Past
-  pub pushed : child.pasts ≡ s.pasts ++ past ∷ []
-  pub finds : KnowsPast initial s → FindsPast initial s e (Some past)
+  pub finds : KnowsPast initial s → AreKnownWith initial s e child.pasts
   pub known : (m : Module) → AreNexts m s.log nexts → KnowsNexts m child

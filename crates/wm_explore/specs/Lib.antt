@@ -5,6 +5,7 @@ pub mod Bounds
 pub mod Turns
 pub mod Clocks
 pub mod Past
+pub mod Standing
 pub mod Known
 pub mod Judging
 pub mod Asking

@@ -283,13 +283,6 @@ impl Hint {
         }
     }
 
-    /// A copy.
-    pub(crate) fn copy(&self, alloc: Global) -> Result<Self, AllocError> {
-        Ok(Hint {
-            order: self.order.as_slice().to_vec(alloc)?,
-        })
-    }
-
     /// A place for one more event.
     fn fit(&self, initial: &Initial, event: Event) -> Fit {
         let order = self.order.as_slice();

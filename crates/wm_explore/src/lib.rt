@@ -12,6 +12,7 @@ mod judge;
 mod law;
 mod past;
 mod search;
+mod standing;
 mod state;
 mod subtrees;
 mod turn;

@@ -5,7 +5,7 @@ ghost use Rattle.wm_event.specs.Rules.{IsTearFree};
 ghost use Rattle.wm_event.specs.declared.event.EventId.{EventId};
 ghost use Rattle.wm_event.specs.declared.event.Event.{Event};
 ghost use Rattle.wm_event.specs.declared.event.EventId.TheVariants.{At, Init};
-ghost use Rattle.wm_explore.specs.Past.{AreApart, AreGainedAt, BreaksMark, CannotBegin, CannotGive, CannotGiveBeside, CannotTake, FindsCommon, FindsFor, FindsPast, HasNoSource, Hides, IsAfter, IsEarlier, IsLike, IsRival, IsTaken, IsThreadPast, IsUpdateLike, KnowsPast, TakesNothing, TakesNothingNew, WouldSynchronize, left_by};
+ghost use Rattle.wm_explore.specs.Past.{AreApart, AreGainedAt, BreaksMark, CannotBegin, CannotGive, CannotGiveBeside, CannotTake, ComesAfter, FindsCommon, FindsFor, FindsPast, HasNoSource, Hides, IsAfter, IsEarlier, IsLike, IsOvertaken, IsRival, IsTaken, IsThreadPast, IsUpdateLike, KnowsPast, Overwrites, StandsAfter, StandsBetween, TakesNothing, TakesNothingNew, WouldSynchronize, WouldTear, left_by};
 
 use crate::clock::Clock;
 use crate::state::State;
@@ -18,12 +18,31 @@ use wm_event::{Event, EventId, EventKey, Initial, byte_of};
 pub(crate) struct Past {
     /// What happens before it, and it itself.
     pub clock: Clock,
+    /// What stands before it in the order, and it itself.
+    pub order: Clock,
     /// The source of its lowest byte, if it reads and there is only one that it can be from.
     pub source: Option<EventId>,
 }
 
-/// The clock of the event that arrived at a place, if it is an earlier one of the thread of the next event.
-fn earlier(state: &State, place: usize, next: EventKey) -> Option<Clock>
+impl Past {
+    ghost use Rattle.std.specs.Prelude.{◌≡◌, None};
+    ghost use Rattle.wm_explore.specs.Past.{CountsNothing};
+
+    /// Nothing is known.
+    fn unknown() -> Self
+        ensures counts { CountsNothing result }
+        ensures source { result.source ≡ None }
+    {
+        Past {
+            clock: Clock::zero(),
+            order: Clock::zero(),
+            source: None,
+        }
+    }
+}
+
+/// What surely holds of the event that arrived at a place, if it is an earlier one of the thread of the next event.
+fn earlier(state: &State, place: usize, next: EventKey) -> Option<Past>
     ensures { IfSome result (IsEarlier state.now next) }
 {
     let key = state.arrived.get(place)?;
@@ -33,19 +52,18 @@ fn earlier(state: &State, place: usize, next: EventKey) -> Option<Clock>
     if key.number >= next.number {
         return None;
     }
-    let past = state.pasts.get(place)?;
-    Some(past.clock)
+    Some(*state.pasts.get(place)?)
 }
 
-/// What happens before the next event, by the order of its thread.
-fn before_next(state: &State, next: EventKey) -> Clock
+/// What surely holds of the event before the next one in its thread, if there is one.
+fn before_next(state: &State, next: EventKey) -> Past
     ensures { IsThreadPast state.now next result }
 {
-    let mut before = Clock::zero();
+    let mut before = Past::unknown();
     for place in 0..state.arrived.len() {
         match earlier(state, place, next) {
             None => {}
-            Some(clock) => before = clock,
+            Some(past) => before = past,
         }
     }
     before
@@ -158,9 +176,57 @@ fn is_like(state: &State, next: &Event, source: EventId) -> bool
     is_tear_free(event)
 }
 
+/// Whether the next event synchronizes with a source from which it takes a byte, or the source is the initial memory.
+pub(crate) fn would_synchronize(state: &State, next: &Event, source: EventId) -> bool
+    ensures { result ≡ true → WouldSynchronize state.now.log next.now source }
+{
+    let EventId::At(key) = source else {
+        return true;
+    };
+    let Some(event) = state.log.event(key) else {
+        return false;
+    };
+    if !event.is_atomic() {
+        return false;
+    }
+    event.range() == next.range()
+}
+
+/// Whether a source is the event that arrived at a place, and comes after another one.
+fn comes_after(state: &State, place: usize, source: EventId, other: EventId) -> bool
+    ensures { result ≡ true → ComesAfter state.now place source other }
+{
+    let Some(key) = state.arrived.get(place) else {
+        return false;
+    };
+    if source != EventId::At(*key) {
+        return false;
+    }
+    is_after(state, place, *key, other)
+}
+
+/// Whether a source comes after another one, where the next event would synchronize with it: so it writes each byte that the
+/// other one writes of those.
+fn overwrites(state: &State, next: &Event, source: EventId, other: EventId) -> bool
+    ensures { result ≡ true → Overwrites state.now next.now source other }
+{
+    if !next.is_atomic() {
+        return false;
+    }
+    if !would_synchronize(state, next, source) {
+        return false;
+    }
+    for place in 0..state.arrived.len() {
+        if comes_after(state, place, source, other) {
+            return true;
+        }
+    }
+    false
+}
+
 /// Whether the next event doesn't take bytes from both sources, since it is tear-free.
-fn are_apart(state: &State, next: &Event, source: EventId, other: EventId) -> bool
-    ensures { result ≡ true → AreApart state.now.log next.now source other }
+fn would_tear(state: &State, next: &Event, source: EventId, other: EventId) -> bool
+    ensures { result ≡ true → WouldTear state.now.log next.now source other }
 {
     if other == source {
         return false;
@@ -172,6 +238,19 @@ fn are_apart(state: &State, next: &Event, source: EventId, other: EventId) -> bo
         return false;
     }
     is_like(state, next, other)
+}
+
+/// Whether the next event doesn't take bytes from both sources.
+fn are_apart(state: &State, next: &Event, source: EventId, other: EventId) -> bool
+    ensures { result ≡ true → AreApart state.now next.now source other }
+{
+    if would_tear(state, next, source, other) {
+        return true;
+    }
+    if overwrites(state, next, source, other) {
+        return true;
+    }
+    overwrites(state, next, other, source)
 }
 
 /// Whether the next event can have a byte from a source where its lowest byte is from `first`.
@@ -221,24 +300,8 @@ fn has_source(
     false
 }
 
-/// Whether the next event synchronizes with a source from which it takes a byte, or the source is the initial memory.
-fn would_synchronize(state: &State, next: &Event, source: EventId) -> bool
-    ensures { result ≡ true → WouldSynchronize state.now.log next.now source }
-{
-    let EventId::At(key) = source else {
-        return true;
-    };
-    let Some(event) = state.log.event(key) else {
-        return false;
-    };
-    if !event.is_atomic() {
-        return false;
-    }
-    event.range() == next.range()
-}
-
 /// Whether the event that arrived at a place is an atomic update of the range of the next one.
-fn is_update_like(state: &State, next: &Event, key: EventKey) -> bool
+pub(crate) fn is_update_like(state: &State, next: &Event, key: EventKey) -> bool
     ensures { result ≡ true → IsUpdateLike state.now.log next.now key }
 {
     let Some(event) = state.log.event(key) else {
@@ -291,57 +354,105 @@ fn is_taken(state: &State, next: &Event, source: EventId) -> bool
     false
 }
 
+/// Whether the event that arrived at a place, which is `key`, stands after a source in the order.
+pub(crate) fn stands_after(state: &State, place: usize, key: EventKey, source: EventId) -> bool
+    ensures { result ≡ true → StandsAfter state.now place key source }
+{
+    let EventId::At(writer) = source else {
+        return true;
+    };
+    if writer == key {
+        return false;
+    }
+    match state.pasts.get(place) {
+        None => false,
+        Some(past) => past.order.counts(writer),
+    }
+}
+
+/// Whether an atomic write of the range of the next event arrived at a place, and stands after a source and before the next
+/// event.
+fn stands_between(state: &State, order: &Clock, next: &Event, place: usize, source: EventId) -> bool
+    ensures { result ≡ true → StandsBetween state.now order.now next.now place source }
+{
+    let Some(key) = state.arrived.get(place) else {
+        return false;
+    };
+    if !order.counts(*key) {
+        return false;
+    }
+    if !is_update_like(state, next, *key) {
+        return false;
+    }
+    stands_after(state, place, *key, source)
+}
+
+/// Whether an atomic write stands between a source and the next event, which so doesn't synchronize with that source.
+fn is_overtaken(state: &State, order: &Clock, next: &Event, source: EventId) -> bool
+    ensures { result ≡ true → IsOvertaken state.now order.now next.now source }
+{
+    if !next.is_atomic() {
+        return false;
+    }
+    if !would_synchronize(state, next, source) {
+        return false;
+    }
+    for place in 0..state.arrived.len() {
+        if stands_between(state, order, next, place, source) {
+            return true;
+        }
+    }
+    false
+}
+
 /// Whether the next event can have its lowest byte from a source.
-fn can_begin(
-    state: &State,
-    initial: &Initial,
-    before: &Clock,
-    next: &Event,
-    source: EventId,
-) -> bool
+fn can_begin(state: &State, initial: &Initial, before: &Past, next: &Event, source: EventId) -> bool
     ensures { result ≡ false → CannotBegin initial.now state.now before.now next.now source }
 {
-    if !can_give(state, initial, before, next, 0, source) {
+    if !can_give(state, initial, &before.clock, next, 0, source) {
         return false;
     }
     if is_taken(state, next, source) {
         return false;
     }
+    if is_overtaken(state, &before.order, next, source) {
+        return false;
+    }
     for byte in 1..next.width.bytes() {
-        if !has_source(state, initial, before, next, source, byte) {
+        if !has_source(state, initial, &before.clock, next, source, byte) {
             return false;
         }
     }
     true
 }
 
-/// What surely happens before the next event if its lowest byte is from the event that arrived at a place, by synchronizing
-/// with it.
-fn gained(state: &State, next: &Event, place: usize, key: EventKey) -> Clock
+/// What surely holds of the event that arrived at a place, if the next event synchronizes with it by taking its lowest byte from
+/// it.
+fn gained(state: &State, next: &Event, place: usize, key: EventKey) -> Past
     ensures { AreGainedAt state.now next.now place key result }
 {
     if !next.is_atomic() {
-        return Clock::zero();
+        return Past::unknown();
     }
     if !would_synchronize(state, next, EventId::At(key)) {
-        return Clock::zero();
+        return Past::unknown();
     }
     match state.pasts.get(place) {
-        None => Clock::zero(),
-        Some(past) => past.clock,
+        None => Past::unknown(),
+        Some(past) => *past,
     }
 }
 
 /// What surely holds of the next event if its lowest byte is from the initial memory; None if it isn't.
-fn gained_initially(state: &State, initial: &Initial, before: &Clock, next: &Event) -> Option<Past>
+fn gained_initially(state: &State, initial: &Initial, before: &Past, next: &Event) -> Option<Past>
     ensures { FindsFor initial.now state.now before.now next.now result Init }
 {
     if !can_begin(state, initial, before, next, EventId::Init) {
         return None;
     }
     Some(Past {
-        clock: Clock::zero(),
         source: Some(EventId::Init),
+        ..Past::unknown()
     })
 }
 
@@ -350,7 +461,7 @@ fn gained_initially(state: &State, initial: &Initial, before: &Clock, next: &Eve
 fn gained_too(
     state: &State,
     initial: &Initial,
-    before: &Clock,
+    before: &Past,
     next: &Event,
     common: Option<Past>,
     place: usize,
@@ -367,18 +478,19 @@ fn gained_too(
     let gained = gained(state, next, place, key);
     match common {
         None => Some(Past {
-            clock: gained,
             source: Some(EventId::At(key)),
+            ..gained
         }),
         Some(other) => Some(Past {
-            clock: other.clock.met(&gained),
+            clock: other.clock.met(&gained.clock),
+            order: other.order.met(&gained.order),
             source: None,
         }),
     }
 }
 
 /// What surely holds of the next event, from whichever source its lowest byte is; None if it is from none.
-fn common_past(state: &State, initial: &Initial, before: &Clock, next: &Event) -> Option<Past>
+fn common_past(state: &State, initial: &Initial, before: &Past, next: &Event) -> Option<Past>
     ensures { FindsCommon initial.now state.now before.now next.now result }
 {
     let mut common = gained_initially(state, initial, before, next);
@@ -463,8 +575,10 @@ fn can_keep_mark(state: &State, initial: &Initial, before: &Clock, next: &Event)
 pub(crate) fn past_of_write(state: &State, next: EventKey) -> Past
     ensures { (initial : List ℕ) (e : Event) → key_of e ≡ next → KnowsPast initial state.now → FindsPast initial state.now e (Some result) }
 {
+    let before = before_next(state, next);
     Past {
-        clock: before_next(state, next).with(next),
+        clock: before.clock.with(next),
+        order: before.order.with(next),
         source: None,
     }
 }
@@ -478,13 +592,14 @@ pub(crate) fn past_of(state: &State, initial: &Initial, next: &Event) -> Option<
         return Some(past_of_write(state, next.key()));
     }
     let before = before_next(state, next.key());
-    if !can_keep_mark(state, initial, &before, next) {
+    if !can_keep_mark(state, initial, &before.clock, next) {
         return None;
     }
     match common_past(state, initial, &before, next) {
         None => None,
         Some(common) => Some(Past {
-            clock: before.joined(&common.clock).with(next.key()),
+            clock: before.clock.joined(&common.clock).with(next.key()),
+            order: before.order.joined(&common.order).with(next.key()),
             source: common.source,
         }),
     }

@@ -18,7 +18,8 @@ use crate::exploration::{Exploration, Finished};
 use crate::hint::Hint;
 use crate::idle::ends_idly;
 use crate::judge::{Permission, judged};
-use crate::past::{past_of, past_of_write};
+use crate::past::past_of_write;
+use crate::standing::{pasts_of, pasts_with};
 use crate::state::State;
 use crate::subtrees::explore_some;
 use crate::turn::{Turn, nexts, turn_of};
@@ -172,23 +173,21 @@ fn add_permitted(
     initial: &Initial,
     nodes: u64,
     child: State,
-    progress: &mut Progress,
+    work: &mut Vec<State>,
 ) -> Result<(), AllocError>
-    ensures finished { OnOk result (progress.new.finished ≡ progress.old.finished) }
-    ensures met { OnOk result (progress.new.met ≡ progress.old.met) }
-    ensures added { OnOk result (AddsPermitted initial.now child progress.old.work.items progress.new.work.items) }
+    ensures { OnOk result (AddsPermitted initial.now child work.old.items work.new.items) }
 {
     if child.hint.is_some() {
-        progress.work.push(child)?;
+        work.push(child)?;
         return Ok(());
     }
     match judged(alloc, &child.log, child.arrived.as_slice(), initial, nodes)? {
         Permission::Never => {}
         Permission::With(witness) => {
             let hint = Hint::of(alloc, &child.log, &witness)?;
-            progress.work.push(child.hinted(hint))?;
+            work.push(child.hinted(hint))?;
         }
-        Permission::Unknown => progress.work.push(child)?,
+        Permission::Unknown => work.push(child)?,
     }
     Ok(())
 }
@@ -201,20 +200,18 @@ fn add_read(
     nodes: u64,
     state: &State,
     nexts: &[Next],
-    progress: &mut Progress,
+    work: &mut Vec<State>,
     thread: usize,
     event: Event,
 ) -> Result<(), AllocError>
     requires { IsLog (extended thread event state.now.log) }
-    ensures finished { OnOk result (progress.new.finished ≡ progress.old.finished) }
-    ensures met { OnOk result (progress.new.met ≡ progress.old.met) }
-    ensures added { OnOk result (AddsRead initial.now nexts.now thread event state.now progress.old.work.items progress.new.work.items) }
+    ensures { OnOk result (AddsRead initial.now nexts.now thread event state.now work.old.items work.new.items) }
 {
-    match past_of(state, initial, &event) {
+    match pasts_of(alloc, state, initial, &event)? {
         None => Ok(()),
-        Some(past) => {
-            let child = state.with(alloc, initial, nexts, thread, event, past)?;
-            add_permitted(alloc, initial, nodes, child, progress)
+        Some(pasts) => {
+            let child = state.with(alloc, initial, nexts, thread, event, pasts)?;
+            add_permitted(alloc, initial, nodes, child, work)
         }
     }
 }
@@ -224,35 +221,35 @@ fn add_reads(
     alloc: Global,
     module: &ValidModule,
     limits: Limits,
-    state: &State,
+    state: State,
     nexts: &[Next],
     progress: &mut Progress,
     thread: usize,
     op: Op,
 ) -> Result<(), AllocError>
-    requires few { length state.now.log ≤ max_threads }
-    requires noted { IsNoted «module».now state.now }
-    requires nexts { AreNexts «module».now state.now.log nexts.now }
-    requires next { MakesNext «module».now limits.events state.now.log thread op }
+    requires few { length state.log ≤ max_threads }
+    requires noted { IsNoted «module».now state }
+    requires nexts { AreNexts «module».now state.log nexts.now }
+    requires next { MakesNext «module».now limits.events state.log thread op }
     requires reads { kind_finds op.kind ≡ true }
-    ensures { OnOk result (IsStep «module».now limits.events state.now progress.old progress.new) }
+    ensures { OnOk result (IsStep «module».now limits.events state progress.old progress.new) }
 {
-    progress.work.push(state.marked(alloc, nexts, thread)?)?;
     let initial = module.initial();
-    let values = values(alloc, state, initial, op.fields(), state.mark(thread))?;
+    let values = values(alloc, &state, initial, op.fields(), state.mark(thread))?;
     for value in values.as_slice() {
-        let event = next_event(state, thread, op, *value);
+        let event = next_event(&state, thread, op, *value);
         add_read(
             alloc,
             initial,
             limits.nodes,
-            state,
+            &state,
             nexts,
-            progress,
+            &mut progress.work,
             thread,
             event,
         )?;
     }
+    progress.work.push(state.marked(alloc, nexts, thread)?)?;
     Ok(())
 }
 
@@ -261,21 +258,22 @@ fn extend(
     alloc: Global,
     module: &ValidModule,
     limits: Limits,
-    state: &State,
+    state: State,
     nexts: &[Next],
     progress: &mut Progress,
 ) -> Result<(), AllocError>
-    requires few { length state.now.log ≤ max_threads }
-    requires noted { IsNoted «module».now state.now }
-    requires nexts { AreNexts «module».now state.now.log nexts.now }
-    ensures { OnOk result (IsStep «module».now limits.events state.now progress.old progress.new) }
+    requires few { length state.log ≤ max_threads }
+    requires noted { IsNoted «module».now state }
+    requires nexts { AreNexts «module».now state.log nexts.now }
+    ensures { OnOk result (IsStep «module».now limits.events state progress.old progress.new) }
 {
-    match turn_of(state, nexts, limits.events) {
-        Turn::Nothing => finish(alloc, module, limits.nodes, state, progress),
+    match turn_of(&state, nexts, limits.events) {
+        Turn::Nothing => finish(alloc, module, limits.nodes, &state, progress),
         Turn::Write(thread, op) => {
-            let event = next_event(state, thread, op, 0);
-            let past = past_of_write(state, event.key());
-            let child = state.with(alloc, module.initial(), nexts, thread, event, past)?;
+            let event = next_event(&state, thread, op, 0);
+            let past = past_of_write(&state, event.key());
+            let pasts = pasts_with(alloc, &state, &event, past)?;
+            let child = state.with(alloc, module.initial(), nexts, thread, event, pasts)?;
             progress.work.push(child)?;
             Ok(())
         }
@@ -340,7 +338,7 @@ pub(crate) fn advance(
                 if ends_idly(alloc, module, &state, nexts)? {
                     continue;
                 }
-                extend(alloc, module, limits, &state, nexts, progress)?;
+                extend(alloc, module, limits, state, nexts, progress)?;
             }
         }
     }

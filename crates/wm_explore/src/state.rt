@@ -1,5 +1,5 @@
 //! How far an execution has come.
-ghost use Rattle.std.specs.Prelude.{◌≡◌, ◌++◌, ◌∷◌, [], ℕ, Some, IfOk, length, slice_get};
+ghost use Rattle.std.specs.Prelude.{◌≡◌, ◌++◌, ℕ, Some, IfOk, length, slice_get};
 ghost use Rattle.wm_ast.specs.declared.module.Module.{Module};
 ghost use Rattle.wm_event.specs.Log.{IsLog};
 ghost use Rattle.wm_explore.specs.Known.{KnowsBut, KnowsNexts, KnowsOnly};
@@ -7,7 +7,7 @@ ghost use Rattle.wm_explore.specs.States.{IsAlike, IsChild, IsMarked, extended};
 ghost use Rattle.wm_explore.specs.Turns.{AreNexts};
 ghost use Rattle.wm_replay.specs.declared.continuing.Next.{Next};
 
-use crate::copies::{copied_log, with_event};
+use crate::copies::with_event;
 use crate::hint::Hint;
 use crate::past::Past;
 use std::alloc::{AllocError, Global};
@@ -71,14 +71,6 @@ fn all_known(alloc: Global, nexts: &[Next]) -> Result<List<Option<Next>>, AllocE
     Ok(known)
 }
 
-/// A copy of a hint.
-fn copied_hint(alloc: Global, hint: &Option<Hint>) -> Result<Option<Hint>, AllocError> {
-    match hint {
-        None => Ok(None),
-        Some(hint) => Ok(Some(hint.copy(alloc)?)),
-    }
-}
-
 /// A hint with one more event, if there is one.
 fn hint_with(
     alloc: Global,
@@ -93,7 +85,7 @@ fn hint_with(
 }
 
 impl State {
-    /// The state in which this thread has one more event, of which so much surely holds, where the threads did this next.
+    /// The state in which this thread has one more event, where the threads did this next and so much surely holds then.
     pub(crate) fn with(
         &self,
         alloc: Global,
@@ -101,19 +93,17 @@ impl State {
         nexts: &[Next],
         thread: usize,
         event: Event,
-        past: Past,
+        pasts: List<Past>,
     ) -> Result<State, AllocError>
         requires { IsLog (extended thread event self.now.log) }
         ensures child { IfOk result (IsChild thread event self.now) }
-        ensures pasts { IfOk result (λ s. s.pasts ≡ self.now.pasts ++ past ∷ []) }
+        ensures pasts { IfOk result (λ s. s.pasts ≡ pasts) }
         ensures known { IfOk result (λ s. (m : Module) → AreNexts m self.now.log nexts.now → KnowsNexts m s) }
     {
         let log = with_event(alloc, &self.log, thread, event)?;
         let mut arrived = List::from_vec(self.arrived.as_slice().to_vec(alloc)?);
         arrived.push(event.key())?;
         let marks = with_mark(alloc, self.marks.as_slice(), thread, None)?;
-        let mut pasts = List::from_vec(self.pasts.as_slice().to_vec(alloc)?);
-        pasts.push(past)?;
         let known = known_but(alloc, nexts, thread)?;
         let hint = hint_with(alloc, initial, &self.hint, event)?;
         Ok(State {
@@ -151,34 +141,34 @@ impl State {
     /// The same state, where some byte of the thread's next event is from an event that hasn't arrived, and the threads do
     /// this next.
     pub(crate) fn marked(
-        &self,
+        self,
         alloc: Global,
         nexts: &[Next],
         thread: usize,
     ) -> Result<State, AllocError>
-        ensures log { IfOk result (λ s. s.log ≡ self.now.log) }
-        ensures arrived { IfOk result (λ s. s.arrived ≡ self.now.arrived) }
-        ensures pasts { IfOk result (λ s. s.pasts ≡ self.now.pasts) }
-        ensures marks { IfOk result (λ s. IsMarked thread (Some (length self.now.arrived)) self.now.marks s.marks) }
-        ensures known { IfOk result (λ s. (m : Module) → AreNexts m self.now.log nexts.now → KnowsNexts m s) }
+        ensures log { IfOk result (λ s. s.log ≡ self.log) }
+        ensures arrived { IfOk result (λ s. s.arrived ≡ self.arrived) }
+        ensures pasts { IfOk result (λ s. s.pasts ≡ self.pasts) }
+        ensures marks { IfOk result (λ s. IsMarked thread (Some (length self.arrived)) self.marks s.marks) }
+        ensures known { IfOk result (λ s. (m : Module) → AreNexts m self.log nexts.now → KnowsNexts m s) }
     {
-        let log = copied_log(alloc, &self.log)?;
-        let arrived = List::from_vec(self.arrived.as_slice().to_vec(alloc)?);
-        let marks = with_mark(
-            alloc,
-            self.marks.as_slice(),
-            thread,
-            Some(self.arrived.len()),
-        )?;
-        let pasts = List::from_vec(self.pasts.as_slice().to_vec(alloc)?);
-        let known = all_known(alloc, nexts)?;
-        let hint = copied_hint(alloc, &self.hint)?;
+        let count = self.arrived.len();
+        let with_count = with_mark(alloc, self.marks.as_slice(), thread, Some(count))?;
+        let all = all_known(alloc, nexts)?;
+        let State {
+            log,
+            arrived,
+            marks: _marks,
+            pasts,
+            known: _known,
+            hint,
+        } = self;
         Ok(State {
             log,
             arrived,
-            marks,
+            marks: with_count,
             pasts,
-            known,
+            known: all,
             hint,
         })
     }

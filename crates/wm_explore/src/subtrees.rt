@@ -20,6 +20,12 @@ const STATES_AT_ONCE: usize = 64;
 /// The most graphs that are extended from each of them before what is left is shared out again.
 const GRAPHS_AT_ONCE: u64 = 1_024;
 
+/// So many states are few: not enough for all processors.
+const FEW_STATES: usize = 16;
+
+/// The most graphs that are extended from each of a few states, so that there are soon more of them.
+const GRAPHS_OF_FEW: u64 = 256;
+
 /// What came of a state.
 #[derive(Drop)]
 pub(crate) struct Subtree {
@@ -29,12 +35,22 @@ pub(crate) struct Subtree {
     pub graphs: u64,
 }
 
-/// Extends a state and what follows from it.
+/// The most graphs that are extended from each of so many states.
+fn graphs_at_once(states: usize) -> u64 {
+    if states < FEW_STATES {
+        GRAPHS_OF_FEW
+    } else {
+        GRAPHS_AT_ONCE
+    }
+}
+
+/// Extends a state and what follows from it, until this number of graphs has been extended.
 fn subtree_of(
     alloc: Global,
     module: &ValidModule,
     starts: &[Start],
     limits: Limits,
+    most: u64,
     state: State,
 ) -> Result<Subtree, AllocError>
     requires few { length starts.now ≤ max_threads }
@@ -48,7 +64,7 @@ fn subtree_of(
         finished: Vec::new(alloc),
         met: None,
     };
-    let graphs = advance(alloc, module, starts, limits, GRAPHS_AT_ONCE, &mut progress)?;
+    let graphs = advance(alloc, module, starts, limits, most, &mut progress)?;
     Ok(Subtree { progress, graphs })
 }
 
@@ -65,6 +81,7 @@ fn subtrees_of(
     requires states { All (MayBeLeft «module».now starts.now) states.items }
     ensures { IfOk result (λ trees. AreSubtrees «module».now starts.now limits.events states.items trees.items) }
 {
+    let most = graphs_at_once(states.len());
     states
         .into_par_iter()
         .with_min_len(1)
@@ -73,7 +90,7 @@ fn subtrees_of(
                 requires few { length starts.now ≤ max_threads }
                 requires state { MayBeLeft «module».now starts.now state }
                 ensures { IfOk result (λ tree. ComesOf «module».entry.now starts.entry.now limits.events state tree.progress) }
-            { subtree_of(alloc, module, starts, limits, state) },
+            { subtree_of(alloc, module, starts, limits, most, state) },
         )
         .collect::<Result<Vec<Subtree>, AllocError>>(rt, alloc)?
 }

@@ -10,18 +10,13 @@ use Rattle.wm_explore.proofs.search.add_reads.Goals as goal
 
 pub loop-value-init : goal.loop-value-init
 loop-value-init c = record {
-  so_far = λ starts fine progress.
-      read_none c.args.module.now starts c.args.limits.events c.args.state.now fine c.args.thread c.args.op c.args.progress.now c.as_slice-value-items.result.now progress
-      (record { work = c.push.new.self; finished = c.args.progress.now.finished; met = c.args.progress.now.met }) refl refl c.in_ok-marked.field-0 c.in_ok-push.ensures.items
-      c.in_ok-marked.ensures.log c.in_ok-marked.ensures.arrived c.in_ok-marked.ensures.marks
-      (marked_noted c.args.module.now c.args.state.now c.in_ok-marked.field-0 c.requires.noted c.in_ok-marked.ensures.log c.in_ok-marked.ensures.arrived c.in_ok-marked.ensures.pasts
-      (c.in_ok-marked.ensures.known c.args.module.now c.requires.nexts));
+  so_far = λ starts fine progress. read_none c.args.module.now starts c.args.limits.events c.args.state fine c.args.thread c.args.op c.args.progress.now c.as_slice-value-items.result.now progress;
 }
 
 pub loop-value-preserved : goal.loop-value-preserved
 loop-value-preserved c = record {
   so_far = λ starts fine progress.
-      let s = c.args.state.now in
+      let s = c.args.state in
       let k = c.args.thread in
       let n = c.loop-value.value-index in
       let r = get_or c.as_slice-value-items.result.now n 0 in
@@ -31,17 +26,21 @@ loop-value-preserved c = record {
       let event : c.next_event-event.result ≡ event_made (record { thread = k; number = length t.events }) c.args.op r =
       c.next_event-event.ensures.event ∙ ap (λ i. event_made (record { thread = k; number = i }) c.args.op r) (count_at s.log k t at_t) in
       let initial = c.initial-initial.result.now in
-      let added = subst (λ e. AddsRead initial c.args.nexts.now k e s c.loop-value.progress.work.items c.add_read.new.progress.work.items) event c.in_ok-add_read.ensures.added in
-      read_any c.args.module.now starts c.args.limits.events s fine k c.args.op c.args.progress.now c.as_slice-value-items.result.now c.loop-value.progress c.add_read.new.progress n r at_r
-      (c.loop-value.invariant.so_far starts fine progress) c.in_ok-add_read.ensures.finished c.in_ok-add_read.ensures.met t at_t c.requires.noted c.args.nexts.now c.requires.nexts
-      initial c.initial-initial.ensures added;
+      let added = subst (λ e. AddsRead initial c.args.nexts.now k e s c.loop-value.progress.work.items c.add_read.new.work.items) event c.in_ok-add_read.ensures in
+      read_any c.args.module.now starts c.args.limits.events s fine k c.args.op c.args.progress.now c.as_slice-value-items.result.now c.loop-value.progress
+      (record { work = c.add_read.new.work; finished = c.loop-value.progress.finished; met = c.loop-value.progress.met }) n r at_r (c.loop-value.invariant.so_far starts fine progress) refl refl t at_t
+      c.requires.noted c.args.nexts.now c.requires.nexts initial c.initial-initial.ensures added;
 }
 
 pub returns : goal.returns
 returns c starts fine progress =
-    let s = c.args.state.now in
+    let s = c.args.state in
     let values = c.as_slice-value-items.result.now in
     let all : ReadsAll s c.initial-initial.result.now c.args.op c.mark.result values =
     subst (λ vs. ReadsAll s c.initial-initial.result.now c.args.op c.mark.result vs) (sym c.as_slice-value-items.ensures) (subst (λ op. ReadsAll s c.initial-initial.result.now op c.mark.result c.in_ok-values.values) c.fields.ensures.value c.in_ok-values.ensures) in
-    reads_all c.args.module.now starts c.args.limits.events s fine c.args.thread c.args.op c.args.progress.now values c.loop-value.progress c.loop-value.value-index c.loop-value-test.false
+    let q = c.loop-value.progress in
+    let waiting = c.in_ok-marked.field-0 in
+    reads_all c.args.module.now starts c.args.limits.events s fine c.args.thread c.args.op c.args.progress.now values q c.loop-value.value-index c.loop-value-test.false
     (c.loop-value.invariant.so_far starts fine progress) c.requires.reads c.requires.next c.initial-initial.result.now c.initial-initial.ensures c.mark.result c.mark.ensures all
+    (record { work = c.push.new.self; finished = q.finished; met = q.met }) refl refl waiting c.in_ok-push.ensures.items c.in_ok-marked.ensures.log c.in_ok-marked.ensures.arrived c.in_ok-marked.ensures.marks
+    (marked_noted c.args.module.now s waiting c.requires.noted c.in_ok-marked.ensures.log c.in_ok-marked.ensures.arrived c.in_ok-marked.ensures.pasts (c.in_ok-marked.ensures.known c.args.module.now c.requires.nexts))

@@ -3,6 +3,7 @@ use Rattle.std.proofs.lemmas.Option.{slice_get_within}
 use Rattle.std.proofs.lemmas.Result.{on_ok_weaker}
 use Rattle.wm_event.specs.Op.{event_made}
 use Rattle.wm_event.specs.Event.{key_of}
+use Rattle.wm_explore.specs.Past.{AreKnownWith}
 use Rattle.wm_explore.specs.States.{IsChild, count_in}
 use Rattle.wm_explore.specs.Turns.{IsTurn}
 use Rattle.wm_explore.proofs.Beginnings.{count_at}
@@ -16,13 +17,13 @@ returns-in-Nothing c = on_ok_weaker c.finish.result (λ step. step c.args.limits
 
 pub next_event-event-requires-clause-thread : goal.next_event-event-requires-clause-thread
 next_event-event-requires-clause-thread c =
-    let s = c.args.state.now in
+    let s = c.args.state in
     let turn = subst (IsTurn c.args.module.now c.args.limits.events s) c.in-Write.is (c.turn_of.ensures c.args.module.now c.requires.nexts) in
     slice_get_within s.log c.in-Write.thread turn.0.thread turn.0.is_thread
 
 pub next_event-event-requires-clause-number : goal.next_event-event-requires-clause-number
 next_event-event-requires-clause-number c =
-    let s = c.args.state.now in
+    let s = c.args.state in
     let turn = subst (IsTurn c.args.module.now c.args.limits.events s) c.in-Write.is (c.turn_of.ensures c.args.module.now c.requires.nexts) in
     let count = count_at s.log c.in-Write.thread turn.0.thread turn.0.is_thread in
     let few = turn.0.few in
@@ -30,11 +31,11 @@ next_event-event-requires-clause-number c =
     grind (less, arith, rules)
 
 pub add_reads-requires-clause-reads : goal.add_reads-requires-clause-reads
-add_reads-requires-clause-reads c = (subst (IsTurn c.args.module.now c.args.limits.events c.args.state.now) c.in-Read.is (c.turn_of.ensures c.args.module.now c.requires.nexts)).1
+add_reads-requires-clause-reads c = (subst (IsTurn c.args.module.now c.args.limits.events c.args.state) c.in-Read.is (c.turn_of.ensures c.args.module.now c.requires.nexts)).1
 
 pub returns-in_ok-push-in-Write : goal.returns-in_ok-push-in-Write
 returns-in_ok-push-in-Write c starts fine progress =
-    let s = c.args.state.now in
+    let s = c.args.state in
     let are = c.requires.nexts in
     let turn = subst (IsTurn c.args.module.now c.args.limits.events s) c.in-Write.is (c.turn_of.ensures c.args.module.now are) in
     let t = turn.0.thread in
@@ -45,15 +46,16 @@ returns-in_ok-push-in-Write c starts fine progress =
     (made_noted c.args.module.now starts c.initial.result.now c.args.nexts.now c.in-Write.thread c.next_event-event.result s c.in_ok-child-in-Write.child t turn.0.is_thread (ap key_of event) fine
     (record {
       is_child = c.in_ok-child-in-Write.ensures.child;
-      past = c.past_of_write-past.result;
-      pushed = c.in_ok-child-in-Write.ensures.pasts;
-      finds = λ knows. c.past_of_write-past.ensures c.initial.result.now c.next_event-event.result (sym c.key.ensures) knows;
+      finds = λ knows.
+          let initial = c.initial.result.now in
+          subst (AreKnownWith initial s c.next_event-event.result) (sym c.in_ok-child-in-Write.ensures.pasts)
+          (c.in_ok-pasts-in-Write.ensures initial knows (c.past_of_write-past.ensures initial c.next_event-event.result (sym c.key.ensures) knows));
       known = c.in_ok-child-in-Write.ensures.known;
     }) c.requires.noted are c.initial.ensures)
 
 pub returns-in-Bounded : goal.returns-in-Bounded
 returns-in-Bounded c starts fine progress =
-    let s = c.args.state.now in
+    let s = c.args.state in
     let are = c.requires.nexts in
     let turn = subst (IsTurn c.args.module.now c.args.limits.events s) c.in-Bounded.is (c.turn_of.ensures c.args.module.now are) in
     bounded c.args.module.now starts c.args.limits.events s c.args.progress.now c.meet.new.self progress (ap (λ v. v.items) c.meet.ensures.work) (ap (λ v. v.items) c.meet.ensures.finished)
@@ -63,4 +65,4 @@ returns-in-Bounded c starts fine progress =
 pub returns-in-Stuck : goal.returns-in-Stuck
 returns-in-Stuck c starts fine progress =
     let are = c.requires.nexts in
-    waits c.args.module.now starts c.args.limits.events c.args.state.now fine c.args.progress.now progress (subst (IsTurn c.args.module.now c.args.limits.events c.args.state.now) c.in-Stuck.is (c.turn_of.ensures c.args.module.now are))
+    waits c.args.module.now starts c.args.limits.events c.args.state fine c.args.progress.now progress (subst (IsTurn c.args.module.now c.args.limits.events c.args.state) c.in-Stuck.is (c.turn_of.ensures c.args.module.now are))
