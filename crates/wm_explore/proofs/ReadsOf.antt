@@ -27,7 +27,7 @@ use Rattle.wm_explore.specs.Values.{ReadsAll}
 use Rattle.wm_explore.specs.declared.search.Progress.{Progress}
 use Rattle.wm_explore.specs.declared.state.State.{State}
 use Rattle.wm_explore.proofs.Beginnings.{ended_run, whole_thread}
-use Rattle.wm_explore.proofs.Children.{HasWriters, LacksWriter, goes_on, goes_on_marked, has_or_lacks, is_state, marked_is_state, next_key}
+use Rattle.wm_explore.proofs.Children.{HasWriters, LacksWriter, goes_on, goes_on_marked, has_or_lacks, is_state, next_key}
 use Rattle.wm_explore.proofs.Items.{one_more_any}
 use Rattle.wm_explore.proofs.Lists.{kept_pushed, last_pushed}
 use Rattle.wm_explore.proofs.Permitted.{permitted}
@@ -191,23 +191,19 @@ module _ (m : Module) (starts : List Start) (events : ℕ) (s : State) (fine : I
       is_child : IsChild k e s child
       is_child = record { log = refl; arrived = refl; marks = λ i mark at. absurd (none-some mark at) }
 
-  -- after the last value and the state in which the thread is marked
+  -- after the last value, where what goes on from the state in which the thread is marked is covered
   pub reads_all : (q : Progress) (n : ℕ) → length values ≤ n → ReadSoFar m starts events s k op p q values n → kind_finds op.kind ≡ true → MakesNext m events s.log k op
       → (initial : List ℕ) → IsInit m initial → (mark : Option ℕ) → ((c : ℕ) → mark ≡ Some c → slice_get s.marks k ≡ Some (Some c)) → ReadsAll s initial op mark values
-      → (next : Progress) → next.finished ≡ q.finished → next.met ≡ q.met → (waiting : State) → next.work.items ≡ q.work.items ++ waiting ∷ []
-      → waiting.log ≡ s.log → waiting.arrived ≡ s.arrived → IsMarked k (Some (length s.arrived)) s.marks waiting.marks → IsNoted m waiting → Extends m starts events s p next
-  reads_all q n all so finds makes initial is_init mark marked each next same_finished same_met waiting pushed same_log same_arrived marks noted = record {
-    progress = pushed_progress m starts events q next same_finished same_met waiting pushed so.progress (marked_is_state starts s waiting k fine same_log same_arrived marks) noted;
+      → (waiting : State) → waiting.log ≡ s.log → waiting.arrived ≡ s.arrived → IsMarked k (Some (length s.arrived)) s.marks waiting.marks
+      → (next : Progress) → IsMore events q next → IsProgress m starts next → ((x : LoggedRun) → IsExecutionOf m starts x → IsCausal (execution x) → GoesOn x waiting → Covers events next x) → Extends m starts events s p next
+  reads_all q n all so finds makes initial is_init mark marked each waiting same_log same_arrived marks next more progress waits = record {
+    progress = progress;
     keeps = λ x is causal covers. covers_more events q next more x (so.keeps x is causal covers);
     takes = λ x is causal on. takes x is causal on (has_or_lacks x s on k makes.thread makes.is_thread);
   }
     where
-      more : IsMore events q next
-      more = pushed_more m starts events q next same_finished same_met waiting pushed
-
       takes : (x : LoggedRun) → IsExecutionOf m starts x → IsCausal (execution x) → (on : GoesOn x s) → HasWriters x s on k makes.thread makes.is_thread ⊎ LacksWriter x s on k makes.thread makes.is_thread → Covers events next x
-      takes x is causal on (inr lacks) =
-          pushed_left m starts events q next same_finished same_met waiting pushed x (goes_on_marked x s on k makes.thread makes.is_thread starts fine waiting same_log same_arrived marks lacks)
+      takes x is causal on (inr lacks) = waits x is causal (goes_on_marked x s on k makes.thread makes.is_thread starts fine waiting same_log same_arrived marks lacks)
       takes x is causal on (inl has) =
           let u = whole_thread s.log x.log on.beginning k makes.thread makes.is_thread in
           let made : HasNextBy k makes.thread u.0 op = makes.next u.0 (ended_run m starts x s.log is on.beginning k makes.thread u.0 makes.is_thread u.1) in

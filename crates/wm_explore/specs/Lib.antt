@@ -3,6 +3,7 @@ pub mod States
 pub mod Values
 pub mod Bounds
 pub mod Turns
+pub mod Moved
 pub mod Clocks
 pub mod Past
 pub mod Standing

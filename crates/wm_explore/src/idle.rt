@@ -2,9 +2,12 @@
 ghost use Rattle.std.specs.Prelude.{◌≡◌, ◌≤◌, true, length, IfOk, IfSome};
 ghost use Rattle.wm_explore.specs.Idle.{HasIdleTurn, IsAfter, IsAt, IsIdle};
 ghost use Rattle.wm_machine.specs.State.{config_of};
+ghost use Rattle.wm_explore.specs.Moved.{IsMoved};
+ghost use Rattle.wm_replay.specs.Complete.{RunsWithinLimit};
 ghost use Rattle.wm_replay.specs.Following.{HasPlaces};
 
 use crate::copies::first_events;
+use crate::moved::Moved;
 use crate::state::State;
 use std::alloc::{AllocError, Global};
 use wm_event::{Event, MAX_STEPS, Op, ThreadLog};
@@ -65,19 +68,23 @@ fn is_made_at(event: &Event, position: Option<&CodePosition>, op: Op, place: Cod
     is_made_by(event, op) && position == Some(&place)
 }
 
-/// Where an idle turn of a thread begins that ends with the last event of its log: the number of its first event.
+/// Where an idle turn of a thread begins that ends with the last event of its log, by which it was run: the number of its
+/// first event.
 fn idle_from(
     alloc: Global,
     module: &ValidModule,
     stated: &ThreadLog,
     number: usize,
+    now: &Followed,
 ) -> Result<Option<usize>, AllocError>
-    requires { HasPlaces number stated.now.events }
+    requires places { HasPlaces number stated.now.events }
+    requires runs { RunsWithinLimit number stated.now now.now }
+    requires same { now.now.thread.module ≡ «module».now }
     ensures { IfOk result (λ found. IfSome found (IsIdle «module».now number stated.now)) }
 {
-    let Some(now) = reached(alloc, module, stated, number)? else {
+    if now.events < stated.events.len() {
         return Ok(None);
-    };
+    }
     let Need::Access(next) = now.thread.next() else {
         return Ok(None);
     };
@@ -116,31 +123,29 @@ fn could_be_idle(stated: &ThreadLog, next: Option<&Next>) -> bool {
     false
 }
 
-/// Whether the last events of the thread that made the event that arrived last are an idle turn, where the threads do this
-/// next.
+/// Whether the last events of the thread that moved are an idle turn, where the threads do this next.
 pub(crate) fn ends_idly(
     alloc: Global,
     module: &ValidModule,
     state: &State,
     nexts: &[Next],
+    moved: &Option<Moved>,
 ) -> Result<bool, AllocError>
+    requires { IfSome moved.now (IsMoved «module».now state.now) }
     ensures { IfOk result (λ idle. idle ≡ true → HasIdleTurn «module».now state.now.log) }
 {
-    let Some(last) = state.arrived.as_slice().last() else {
+    let Some(moved) = moved else {
         return Ok(false);
     };
-    let number = last.thread as usize;
-    // A state that waits has the events of one that was looked at before.
-    if state.known(number).is_some() {
-        return Ok(false);
-    }
+    let number = moved.number;
     match state.log.threads().get(number) {
         None => Ok(false),
         Some(stated) => {
             if !could_be_idle(stated, nexts.get(number)) {
                 return Ok(false);
             }
-            Ok(idle_from(alloc, module, stated, number)?.is_some())
+            let found = idle_from(alloc, module, stated, number, &moved.followed)?;
+            Ok(found.is_some())
         }
     }
 }

@@ -10,6 +10,7 @@ mod hint;
 mod idle;
 mod judge;
 mod law;
+mod moved;
 mod past;
 mod search;
 mod standing;

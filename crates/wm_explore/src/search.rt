@@ -18,6 +18,7 @@ use crate::exploration::{Exploration, Finished};
 use crate::hint::Hint;
 use crate::idle::ends_idly;
 use crate::judge::{Permission, judged};
+use crate::moved::last_moved;
 use crate::past::past_of_write;
 use crate::standing::{pasts_of, pasts_with};
 use crate::state::State;
@@ -216,7 +217,7 @@ fn add_read(
     }
 }
 
-/// Adds the states in which a thread makes the access, which reads, and the one in which it waits.
+/// Adds the states in which a thread makes the access, which reads, and the one in which it waits, unless all would wait then.
 fn add_reads(
     alloc: Global,
     module: &ValidModule,
@@ -249,8 +250,15 @@ fn add_reads(
             event,
         )?;
     }
-    progress.work.push(state.marked(alloc, nexts, thread)?)?;
-    Ok(())
+    let waiting = state.marked(alloc, nexts, thread)?;
+    match turn_of(&waiting, nexts, limits.events) {
+        // Each thread would wait.
+        Turn::Stuck => Ok(()),
+        _ => {
+            progress.work.push(waiting)?;
+            Ok(())
+        }
+    }
 }
 
 /// Extends a state whose threads do this next.
@@ -332,10 +340,11 @@ pub(crate) fn advance(
         match progress.work.pop() {
             None => return Ok(graphs),
             Some(state) => {
-                let nexts = nexts(alloc, module, &state)?;
+                let moved = last_moved(alloc, module, &state)?;
+                let nexts = nexts(alloc, module, &state, &moved)?;
                 let nexts = nexts.as_slice();
                 // An execution that goes on from here has a shorter one with its ends.
-                if ends_idly(alloc, module, &state, nexts)? {
+                if ends_idly(alloc, module, &state, nexts, &moved)? {
                     continue;
                 }
                 extend(alloc, module, limits, state, nexts, progress)?;

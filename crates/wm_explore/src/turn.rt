@@ -4,14 +4,18 @@ ghost use Rattle.wm_ast.specs.declared.module.Module.{Module};
 ghost use Rattle.wm_event.specs.Log.{event_in};
 ghost use Rattle.wm_event.specs.Op.{kind_finds};
 ghost use Rattle.wm_explore.specs.Known.{KnowsNexts};
+ghost use Rattle.wm_explore.specs.Moved.{IsMoved, IsMovedBy};
 ghost use Rattle.wm_explore.specs.Turns.{AreNexts, EachEnds, FindsBound, FindsRead, FindsWrite, HasNoNew, IsTurn, WaitsFor, WritesNone, bound_at};
+ghost use Rattle.wm_replay.specs.Continuing.{ContinuesSo};
+ghost use Rattle.wm_replay.specs.Following.{HasPlaces};
 
 use crate::bound::Bound;
+use crate::moved::Moved;
 use crate::state::State;
 use std::alloc::{AllocError, Global};
-use wm_event::{Event, EventKey, Op, OpFields};
+use wm_event::{Event, EventKey, Op, OpFields, ThreadLog};
 use wm_list::List;
-use wm_replay::{Next, next_after};
+use wm_replay::{Next, next_after, next_of};
 use wm_valid::ValidModule;
 
 /// What is added next to a state.
@@ -29,14 +33,38 @@ pub(crate) enum Turn {
     Stuck,
 }
 
-/// What each thread of a state does next; a thread that doesn't start ends. It is found by running those of which it isn't
-/// known.
+/// What a thread of a state does next, of which it isn't known; one that doesn't start ends.
+fn next_of_thread(
+    alloc: Global,
+    module: &ValidModule,
+    moved: &Option<Moved>,
+    stated: &ThreadLog,
+    number: usize,
+) -> Result<Next, AllocError>
+    requires places { HasPlaces number stated.now.events }
+    requires moved { IfSome moved.now (IsMovedBy «module».now number stated.now) }
+    ensures { IfOk result (ContinuesSo «module».now number stated.now) }
+{
+    if let Some(moved) = moved
+        && moved.number == number
+    {
+        return Ok(next_of(&moved.followed, stated, number));
+    }
+    match next_after(alloc, module, stated, number)? {
+        Err(_) => Ok(Next::Ends),
+        Ok(next) => Ok(next),
+    }
+}
+
+/// What each thread of a state does next. It is found by running those of which it isn't known; one was run.
 pub(crate) fn nexts(
     alloc: Global,
     module: &ValidModule,
     state: &State,
+    moved: &Option<Moved>,
 ) -> Result<List<Next>, AllocError>
-    requires { KnowsNexts «module».now state.now }
+    requires known { KnowsNexts «module».now state.now }
+    requires moved { IfSome moved.now (IsMoved «module».now state.now) }
     ensures { IfOk result (AreNexts «module».now state.now.log) }
 {
     let mut nexts = List::new(alloc);
@@ -45,11 +73,7 @@ pub(crate) fn nexts(
             nexts.push(next)?;
             continue;
         }
-        match next_after(alloc, module, stated, number) {
-            Err(refused) => return Err(refused),
-            Ok(Err(_)) => nexts.push(Next::Ends)?,
-            Ok(Ok(next)) => nexts.push(next)?,
-        }
+        nexts.push(next_of_thread(alloc, module, moved, stated, number)?)?;
     }
     Ok(nexts)
 }

@@ -21,8 +21,9 @@ pub enum Next {
     Unknown,
 }
 
-/// What a thread does next that was run by its log for at most [`MAX_STEPS`] steps.
-fn next_of(followed: &Followed, stated: &ThreadLog, number: usize) -> Next
+/// What a thread does next that was run by its log, by [`follow`](crate::follow) for at most [`MAX_STEPS`] steps. `number`
+/// is the thread's number in the log.
+pub fn next_of(followed: &Followed, stated: &ThreadLog, number: usize) -> Next
     requires places { HasPlaces number stated.now.events }
     requires runs { RunsWithinLimit number stated.now followed.now }
     ensures { ContinuesSo followed.now.thread.module number stated.now result }

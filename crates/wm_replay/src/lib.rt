@@ -14,5 +14,5 @@ pub use answer::{Place, ReplayAnswer};
 pub use by_log::{Followed, end_of, follow};
 pub use compare::{Replayed, replay, replay_with_positions};
 pub use completing::{Completion, complete, without_run};
-pub use continuing::{Next, next_after};
+pub use continuing::{Next, next_after, next_of};
 pub use law::one_position;

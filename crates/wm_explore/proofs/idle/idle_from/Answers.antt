@@ -1,9 +1,9 @@
 use Rattle.std.proofs.Common.{◌≡◌, ◌+◌, ◌-◌, ◌<◌, length, sym, ap, subst, ◌∙◌, arith}
-use Rattle.std.specs.Prelude.{IfSome, slice_get}
+use Rattle.std.specs.Prelude.{◌≤◌, slice_get}
 use Rattle.std.proofs.lemmas.Option.{slice_get-get_or}
 use Rattle.wm_machine.specs.State.{config_of}
-use Rattle.wm_explore.specs.Idle.{IsAt}
-use Rattle.wm_explore.proofs.Idling.{ReadFrom, one_more_read}
+use Rattle.wm_replay.specs.Following.{RunsByLog}
+use Rattle.wm_explore.proofs.Idling.{ReadFrom, after_all, one_more_read}
 use Rattle.wm_explore.proofs.idle.idle_from.Goals as goal
 
 pub loop-later-preserved : goal.loop-later-preserved
@@ -37,11 +37,16 @@ returns-then-branch c =
     let first = length c.as_slice-events.result.now - 1 - later in
     let place : first + (later + 1) ≡ length events = omega (arith, lt, count) in
     let at = ap (λ es. slice_get es first) (sym c.as_slice-events.ensures) ∙ slice_get-get_or c.as_slice-events.result.now first _ (let within : first < length c.as_slice-events.result.now = omega (arith, lt) in within) in
+    let m = c.args.module.now in
+    let f = c.args.now.now in
+    let runs : RunsByLog m c.args.number c.args.stated.now 1000000 (config_of f.thread) f.steps f.events =
+    subst (λ n. RunsByLog n c.args.number c.args.stated.now 1000000 (config_of f.thread) f.steps f.events) c.requires.same c.requires.runs in
+    let all : length events ≤ f.events = subst (λ n. n ≤ f.events) c.len.ensures c.if-now-len.false in
     let read : ReadFrom events (later + 1) = one_more_read events later first _ place at (sym c.if-writes.ensures) c.loop-later.invariant.read in
     record {
       some = omega (arith, lt, count);
       read = λ j e le at_e. read j e (omega (arith, le, place)) at_e;
-      config = config_of c.in-Some.now.thread;
+      config = config_of c.args.now.now.thread;
       before = c.in_ok-was_at.ensures c.if-branch.true;
-      after = subst (λ o. IfSome o (λ f. IsAt c.args.module.now c.args.number c.args.stated.now (length c.args.stated.now.events) (config_of f.thread))) c.in-Some.is c.in_ok-now.ensures.at;
+      after = after_all m c.args.number c.args.stated.now 1000000 _ _ _ runs all;
     }

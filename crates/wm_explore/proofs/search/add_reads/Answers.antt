@@ -5,7 +5,12 @@ use Rattle.wm_event.specs.Op.{event_made}
 use Rattle.wm_explore.specs.Search.{AddsRead}
 use Rattle.wm_explore.specs.Values.{ReadsAll}
 use Rattle.wm_explore.proofs.Beginnings.{count_at}
-use Rattle.wm_explore.proofs.ReadsOf.{marked_noted, read_any, read_none, reads_all}
+use Rattle.wm_explore.specs.Turns.{AreNexts, IsTurn}
+use Rattle.wm_explore.specs.declared.search.Progress.{Progress}
+use Rattle.wm_explore.proofs.Children.{marked_is_state}
+use Rattle.wm_explore.proofs.Extending.{waits}
+use Rattle.wm_explore.proofs.Progressing.{same_more}
+use Rattle.wm_explore.proofs.ReadsOf.{marked_noted, pushed_left, pushed_more, pushed_progress, read_any, read_none, reads_all}
 use Rattle.wm_explore.proofs.search.add_reads.Goals as goal
 
 pub loop-value-init : goal.loop-value-init
@@ -32,15 +37,37 @@ loop-value-preserved c = record {
       c.requires.noted c.args.nexts.now c.requires.nexts initial c.initial-initial.ensures added;
 }
 
-pub returns : goal.returns
-returns c starts fine progress =
+pub returns-in-Stuck : goal.returns-in-Stuck
+returns-in-Stuck c starts fine progress =
+    let m = c.args.module.now in
     let s = c.args.state in
     let values = c.as_slice-value-items.result.now in
     let all : ReadsAll s c.initial-initial.result.now c.args.op c.mark.result values =
     subst (λ vs. ReadsAll s c.initial-initial.result.now c.args.op c.mark.result vs) (sym c.as_slice-value-items.ensures) (subst (λ op. ReadsAll s c.initial-initial.result.now op c.mark.result c.in_ok-values.values) c.fields.ensures.value c.in_ok-values.ensures) in
     let q = c.loop-value.progress in
-    let waiting = c.in_ok-marked.field-0 in
-    reads_all c.args.module.now starts c.args.limits.events s fine c.args.thread c.args.op c.args.progress.now values q c.loop-value.value-index c.loop-value-test.false
-    (c.loop-value.invariant.so_far starts fine progress) c.requires.reads c.requires.next c.initial-initial.result.now c.initial-initial.ensures c.mark.result c.mark.ensures all
-    (record { work = c.push.new.self; finished = q.finished; met = q.met }) refl refl waiting c.in_ok-push.ensures.items c.in_ok-marked.ensures.log c.in_ok-marked.ensures.arrived c.in_ok-marked.ensures.marks
-    (marked_noted c.args.module.now s waiting c.requires.noted c.in_ok-marked.ensures.log c.in_ok-marked.ensures.arrived c.in_ok-marked.ensures.pasts (c.in_ok-marked.ensures.known c.args.module.now c.requires.nexts))
+    let so = c.loop-value.invariant.so_far starts fine progress in
+    let waiting = c.in_ok-waiting.waiting in
+    let is = c.in_ok-waiting.ensures in
+    let nexts = subst (λ log. AreNexts m log c.args.nexts.now) (sym is.log) c.requires.nexts in
+    let stuck = subst (IsTurn m c.args.limits.events waiting) c.in-Stuck.is (c.turn_of.ensures m nexts) in
+    reads_all m starts c.args.limits.events s fine c.args.thread c.args.op c.args.progress.now values q c.loop-value.value-index c.loop-value-test.false so c.requires.reads c.requires.next
+    c.initial-initial.result.now c.initial-initial.ensures c.mark.result c.mark.ensures all waiting is.log is.arrived is.marks q (same_more c.args.limits.events q) so.progress
+    (waits m starts c.args.limits.events waiting (marked_is_state starts s waiting c.args.thread fine is.log is.arrived is.marks) q so.progress stuck).takes
+
+pub returns : goal.returns
+returns c starts fine progress =
+    let m = c.args.module.now in
+    let s = c.args.state in
+    let values = c.as_slice-value-items.result.now in
+    let all : ReadsAll s c.initial-initial.result.now c.args.op c.mark.result values =
+    subst (λ vs. ReadsAll s c.initial-initial.result.now c.args.op c.mark.result vs) (sym c.as_slice-value-items.ensures) (subst (λ op. ReadsAll s c.initial-initial.result.now op c.mark.result c.in_ok-values.values) c.fields.ensures.value c.in_ok-values.ensures) in
+    let q = c.loop-value.progress in
+    let so = c.loop-value.invariant.so_far starts fine progress in
+    let waiting = c.in_ok-waiting.waiting in
+    let is = c.in_ok-waiting.ensures in
+    let next : Progress = record { work = c.push.new.self; finished = q.finished; met = q.met } in
+    let pushed = c.in_ok-push-in_default.ensures.items in
+    reads_all m starts c.args.limits.events s fine c.args.thread c.args.op c.args.progress.now values q c.loop-value.value-index c.loop-value-test.false so c.requires.reads c.requires.next
+    c.initial-initial.result.now c.initial-initial.ensures c.mark.result c.mark.ensures all waiting is.log is.arrived is.marks next (pushed_more m starts c.args.limits.events q next refl refl waiting pushed)
+    (pushed_progress m starts c.args.limits.events q next refl refl waiting pushed so.progress (marked_is_state starts s waiting c.args.thread fine is.log is.arrived is.marks)
+    (marked_noted m s waiting c.requires.noted is.log is.arrived is.pasts (is.known m c.requires.nexts))) (λ x _ _ on. pushed_left m starts c.args.limits.events q next refl refl waiting pushed x on)

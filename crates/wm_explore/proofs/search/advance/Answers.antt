@@ -23,8 +23,8 @@ extend-requires c =
       nexts = subst (AreNexts c.args.module.now s.log) (sym c.as_slice-nexts.ensures) c.in_ok-nexts-in-Some.ensures;
     }
 
-pub nexts-requires : goal.nexts-requires
-nexts-requires c =
+pub nexts-requires-clause-known : goal.nexts-requires-clause-known
+nexts-requires-clause-known c =
     let p = c.loop-graphs.progress in
     (taken_noted c.args.module.now c.args.starts.now c.args.limits.events p c.loop-graphs.invariant.so_far.progress c.in-Some.state
     (record { work = c.pop.new.self; finished = p.finished; met = p.met }) c.in-Some.ensures.items refl refl).nexts

@@ -2,7 +2,7 @@ use Rattle.wm_replay.proofs.Logs.{places_in}
 use Rattle.wm_explore.proofs.Items.{item_at}
 use Rattle.wm_explore.proofs.turn.nexts.Goals as goal
 
-pub next_after-requires : goal.next_after-requires
-next_after-requires c =
+pub next_of_thread-requires-clause-places : goal.next_of_thread-requires-clause-places
+next_of_thread-requires-clause-places c =
     let is = item_at c.args.state.now.log c.threads-stated-items.result.now c.loop-number.number c.stated-item.result c.threads-stated-items.ensures.value c.loop-number-test.true c.stated-item.is in
     places_in c.args.state.now.log c.loop-number.number c.stated-item.result c.threads-stated-items.ensures.keys is
