@@ -9,7 +9,7 @@ use Rattle.wm_event.specs.declared.event.EventId.{EventId}
 use Rattle.wm_event.specs.declared.event.EventId.TheVariants.{Init, At}
 use Rattle.wm_event.specs.declared.event.EventKey.{EventKey}
 use Rattle.wm_explore.specs.Clocks.{Counts}
-use Rattle.wm_explore.specs.Past.{IsStanding, IsUpdateLike, StandsAfter, TakesNext, WouldSynchronize}
+use Rattle.wm_explore.specs.Past.{AreKnownWith, FindsPast, IsStanding, IsUpdateLike, KnowsPast, StandsAfter, TakesNext, WouldSynchronize}
 use Rattle.wm_explore.specs.declared.clock.Clock.{Clock}
 use Rattle.wm_explore.specs.declared.past.Past.{Past}
 use Rattle.wm_explore.specs.declared.state.State.{State}
@@ -19,6 +19,10 @@ use Rattle.wm_explore.specs.declared.state.State.{State}
 -- what the clock counts stands before e, or is e, in each execution that has e next
 abbrev pub AreBeforeNext : List ℕ → State → Event → Clock → Type 0
 AreBeforeNext initial s e c = (x : LoggedRun) → TakesNext initial s e x → IsStanding x (key_of e) c
+
+-- if what c counts is so, what d counts is
+abbrev pub KeepsBeforeNext : State → Event → Clock → Clock → Type 0
+KeepsBeforeNext s e c d = (initial : List ℕ) → KnowsPast initial s → AreBeforeNext initial s e c → AreBeforeNext initial s e d
 
 abbrev pub CountsSource : Clock → EventId → Type 0
 CountsSource c Init = ⊤
@@ -64,6 +68,10 @@ IsBeforeAll x b keys = (i : ℕ) (key : EventKey) → slice_get keys i ≡ Some 
 -- the clock counts one of them
 abbrev pub CountsAny : Clock → List EventKey → Type 0
 CountsAny c keys = (i : ℕ) × (key : EventKey) × (slice_get keys i ≡ Some key) × Counts c key
+
+-- what surely holds of the events of s and e, if p holds of e
+abbrev pub AreKnownBy : State → Event → Past → List Past → Type 0
+AreKnownBy s e p pasts = (initial : List ℕ) → KnowsPast initial s → FindsPast initial s e (Some p) → AreKnownWith initial s e pasts
 
 -- q is p, or p and the clock c, if p counts one of these as standing before it
 pub record IsRaised (keys : List EventKey) (c : Clock) (p q : Past) : Type 0 where

@@ -1,8 +1,8 @@
 //! What surely stands before each event of a state in the order, where one more is added.
-ghost use Rattle.std.specs.Prelude.{◌≡◌, ℕ, List, Some, true, IfOk, IsTrue, slice_get};
+ghost use Rattle.std.specs.Prelude.{◌≡◌, Some, true, IfOk, IsTrue, slice_get};
 ghost use Rattle.wm_event.specs.Event.{is_atomic, writes};
-ghost use Rattle.wm_explore.specs.Past.{AreKnownWith, FindsPast, FindsPasts, KnowsPast, WouldSynchronize};
-ghost use Rattle.wm_explore.specs.Standing.{AreBeforeNext, AreLaterWrites, AreOverwriting, AreRaised, CountsAny, CountsSource, IsLaterWrite, IsRaised, IsReadBefore};
+ghost use Rattle.wm_explore.specs.Past.{FindsPasts, KnowsPast, WouldSynchronize};
+ghost use Rattle.wm_explore.specs.Standing.{AreKnownBy, AreLaterWrites, AreOverwriting, AreRaised, CountsAny, CountsSource, IsLaterWrite, IsRaised, IsReadBefore, KeepsBeforeNext};
 
 use crate::clock::Clock;
 use crate::past::{Past, is_update_like, past_of, stands_after, would_synchronize};
@@ -55,7 +55,7 @@ fn is_read_before(state: &State, next: &Event, place: usize, order: &Clock) -> b
 fn with_read(state: &State, next: &Event, place: usize, order: Clock) -> Clock
     requires atomic { IsTrue (is_atomic next.now) }
     requires writing { IsTrue (writes next.now) }
-    ensures { (initial : List ℕ) → KnowsPast initial state.now → AreBeforeNext initial state.now next.now order → AreBeforeNext initial state.now next.now result }
+    ensures { KeepsBeforeNext state.now next.now order result }
 {
     if !is_read_before(state, next, place, &order) {
         return order;
@@ -68,7 +68,7 @@ fn with_read(state: &State, next: &Event, place: usize, order: Clock) -> Clock
 
 /// What stands before the next event, with what stands before the reads that take their bytes from what it overwrites.
 fn with_reads(state: &State, next: &Event, order: Clock) -> Clock
-    ensures { (initial : List ℕ) → KnowsPast initial state.now → AreBeforeNext initial state.now next.now order → AreBeforeNext initial state.now next.now result }
+    ensures { KeepsBeforeNext state.now next.now order result }
 {
     let mut all = order;
     if !next.is_atomic() {
@@ -186,7 +186,7 @@ pub(crate) fn pasts_with(
     next: &Event,
     past: Past,
 ) -> Result<List<Past>, AllocError>
-    ensures { IfOk result (λ pasts. (initial : List ℕ) → KnowsPast initial state.now → FindsPast initial state.now next.now (Some past) → AreKnownWith initial state.now next.now pasts) }
+    ensures { IfOk result (AreKnownBy state.now next.now past) }
 {
     let past = Past {
         order: with_reads(state, next, past.order),

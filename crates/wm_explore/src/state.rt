@@ -1,5 +1,5 @@
 //! How far an execution has come.
-ghost use Rattle.std.specs.Prelude.{◌≡◌, ◌++◌, ℕ, Some, IfOk, length, slice_get};
+ghost use Rattle.std.specs.Prelude.{◌≡◌, ℕ, Some, IfOk, length, slice_get};
 ghost use Rattle.wm_ast.specs.declared.module.Module.{Module};
 ghost use Rattle.wm_event.specs.Log.{IsLog};
 ghost use Rattle.wm_explore.specs.Known.{KnowsBut, KnowsNexts, KnowsOnly};
