@@ -1,10 +1,10 @@
 //! Copies of logs.
-ghost use Rattle.std.specs.Prelude.{◌≡◌, ◌≤◌, length, take, IfOk};
+ghost use Rattle.std.specs.Prelude.{◌≡◌, ◌≤◌, ◌∷◌, ◌++◌, [], length, take, IfOk};
 ghost use Rattle.wm_event.specs.Log.{IsLog};
 ghost use Rattle.wm_explore.specs.States.{extended, with_last};
 
 use std::alloc::{AllocError, Global};
-use wm_event::{Event, Log, Start, ThreadLog};
+use wm_event::{Event, EventKey, Log, Start, ThreadLog};
 use wm_list::{List, Text};
 
 /// A copy of a start.
@@ -76,9 +76,16 @@ pub(crate) fn copied_log(alloc: Global, log: &Log) -> Result<Log, AllocError>
 fn extended_thread(alloc: Global, thread: &ThreadLog, event: Event) -> Result<ThreadLog, AllocError>
     ensures { IfOk result (λ copy. copy ≡ with_last thread.now event) }
 {
-    let mut copy = copied_thread(alloc, thread)?;
-    copy.events.push(event)?;
-    Ok(copy)
+    let start = copied_start(alloc, &thread.start)?;
+    let mut events = Vec::with_capacity(alloc, thread.events.len().saturating_add(1))?;
+    events.extend_from_slice(thread.events.as_slice())?;
+    events.push(event)?;
+    Ok(ThreadLog {
+        start,
+        end: thread.end,
+        steps: thread.steps,
+        events: List::from_vec(events),
+    })
 }
 
 /// A copy of a log in which a thread has one more event.
@@ -100,4 +107,18 @@ pub(crate) fn with_event(
         copy.push(copied_thread(alloc, stated)?)?;
     }
     Ok(Log::new(copy))
+}
+
+/// A copy of the events that have arrived, with one more.
+pub(crate) fn with_arrival(
+    alloc: Global,
+    arrived: &[EventKey],
+    key: EventKey,
+) -> Result<List<EventKey>, AllocError>
+    ensures { IfOk result (λ copy. copy ≡ arrived.now ++ key ∷ []) }
+{
+    let mut copy = Vec::with_capacity(alloc, arrived.len().saturating_add(1))?;
+    copy.extend_from_slice(arrived)?;
+    copy.push(key)?;
+    Ok(List::from_vec(copy))
 }

@@ -24,6 +24,8 @@ enum Source<'a> {
     Init,
     /// The event at that place of the order.
     From(usize, &'a Happened),
+    /// An event that comes later in the order, and doesn't synchronize with the reader.
+    Later(&'a Happened),
 }
 
 /// A place in the order for a new event.
@@ -155,7 +157,9 @@ impl<'a> Taking<'a> {
     fn source_is_before(&self, other: &Happened) -> bool {
         match self.source {
             Source::Init => true,
-            Source::From(_, writer) => other.clock.counts(writer.event.key()),
+            Source::From(_, writer) | Source::Later(writer) => {
+                other.clock.counts(writer.event.key())
+            }
         }
     }
 
@@ -163,7 +167,9 @@ impl<'a> Taking<'a> {
     fn source_is_past(&self) -> bool {
         match self.source {
             Source::Init => true,
-            Source::From(_, writer) => self.clock.counts(writer.event.key()),
+            Source::From(_, writer) | Source::Later(writer) => {
+                self.clock.counts(writer.event.key())
+            }
         }
     }
 
@@ -196,6 +202,7 @@ impl<'a> Taking<'a> {
         let is_after = match self.source {
             Source::Init => true,
             Source::From(source, _) => source < place,
+            Source::Later(_) => false,
         };
         if !is_after {
             return Room::Free;
@@ -256,9 +263,17 @@ fn next_clock(order: &[Happened], next: EventKey) -> Clock {
     clock.with(next)
 }
 
+/// Whether an event that isn't in the order yet leaves all bytes that another one reads, without synchronizing with it.
+fn is_later_source(order: &[Happened], writer: &Happened, reader: &Event) -> bool {
+    let key = writer.event.key();
+    leaves(&writer.event, reader)
+        && !synchronizes(&writer.event, reader)
+        && !order.iter().any(|other| other.event.key() == key)
+}
+
 /// A place for a new event that reads, which takes all bytes from the first source from which it can: so the least happens
-/// before it.
-fn reading_fit(order: &[Happened], initial: &Initial, event: Event) -> Fit {
+/// before it. Some events are to come later.
+fn reading_fit(order: &[Happened], later: &[Happened], initial: &Initial, event: Event) -> Fit {
     let before = next_clock(order, event.key());
     let mut fit = Fit::Nowhere;
     if begins_with(initial, &event) {
@@ -272,6 +287,14 @@ fn reading_fit(order: &[Happened], initial: &Initial, event: Event) -> Fit {
             fit = fit.or(Taking::of(event, Source::From(place, writer), &before).fit(order));
         }
     }
+    for writer in later {
+        if let Fit::At(_) = fit {
+            return fit;
+        }
+        if is_later_source(order, writer, &event) {
+            fit = fit.or(Taking::of(event, Source::Later(writer), &before).fit(order));
+        }
+    }
     fit
 }
 
@@ -283,11 +306,11 @@ impl Hint {
         }
     }
 
-    /// A place for one more event.
-    fn fit(&self, initial: &Initial, event: Event) -> Fit {
+    /// A place for one more event, where some events are to come later.
+    fn fit(&self, initial: &Initial, event: Event, later: &[Happened]) -> Fit {
         let order = self.order.as_slice();
         if event.reads() {
-            return reading_fit(order, initial, event);
+            return reading_fit(order, later, initial, event);
         }
         let clock = next_clock(order, event.key());
         let place = order.len();
@@ -302,7 +325,7 @@ impl Hint {
         initial: &Initial,
         event: Event,
     ) -> Result<Option<Self>, AllocError> {
-        match self.fit(initial, event) {
+        match self.fit(initial, event, &[]) {
             Fit::At(spot) => Ok(Some(self.inserted(alloc, &spot)?)),
             Fit::Blocked(place) => self.delaying(alloc, initial, place, event),
             Fit::Nowhere => Ok(None),
@@ -323,16 +346,22 @@ impl Hint {
             if is_later != (part == Part::Later) {
                 continue;
             }
-            if !self.add(alloc, initial, happened.event)? {
+            if !self.add(alloc, initial, happened.event, order)? {
                 return Ok(false);
             }
         }
         Ok(true)
     }
 
-    /// Adds an event. Whether it has a place.
-    fn add(&mut self, alloc: Global, initial: &Initial, event: Event) -> Result<bool, AllocError> {
-        let Fit::At(spot) = self.fit(initial, event) else {
+    /// Adds an event, where some events are to come later. Whether it has a place.
+    fn add(
+        &mut self,
+        alloc: Global,
+        initial: &Initial,
+        event: Event,
+        later: &[Happened],
+    ) -> Result<bool, AllocError> {
+        let Fit::At(spot) = self.fit(initial, event, later) else {
             return Ok(false);
         };
         if spot.place >= self.order.len() {
@@ -364,7 +393,7 @@ impl Hint {
         if !hint.add_part(alloc, initial, rest, first, Part::Earlier)? {
             return Ok(None);
         }
-        if !hint.add(alloc, initial, event)? {
+        if !hint.add(alloc, initial, event, rest)? {
             return Ok(None);
         }
         if !hint.add_part(alloc, initial, rest, first, Part::Later)? {

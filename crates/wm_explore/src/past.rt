@@ -266,10 +266,10 @@ fn can_give_beside(
     requires { byte < 8 }
     ensures { result ≡ false → CannotGiveBeside initial.now state.now before.now next.now first byte source }
 {
-    if are_apart(state, next, first, source) {
+    if !can_give(state, initial, before, next, byte, source) {
         return false;
     }
-    can_give(state, initial, before, next, byte, source)
+    !are_apart(state, next, first, source)
 }
 
 /// Whether the next event can have a byte from some source where its lowest byte is from `first`.

@@ -7,7 +7,7 @@ ghost use Rattle.wm_explore.specs.States.{IsAlike, IsChild, IsMarked, extended};
 ghost use Rattle.wm_explore.specs.Turns.{AreNexts};
 ghost use Rattle.wm_replay.specs.declared.continuing.Next.{Next};
 
-use crate::copies::with_event;
+use crate::copies::{with_arrival, with_event};
 use crate::hint::Hint;
 use crate::past::Past;
 use std::alloc::{AllocError, Global};
@@ -101,8 +101,7 @@ impl State {
         ensures known { IfOk result (λ s. (m : Module) → AreNexts m self.now.log nexts.now → KnowsNexts m s) }
     {
         let log = with_event(alloc, &self.log, thread, event)?;
-        let mut arrived = List::from_vec(self.arrived.as_slice().to_vec(alloc)?);
-        arrived.push(event.key())?;
+        let arrived = with_arrival(alloc, self.arrived.as_slice(), event.key())?;
         let marks = with_mark(alloc, self.marks.as_slice(), thread, None)?;
         let known = known_but(alloc, nexts, thread)?;
         let hint = hint_with(alloc, initial, &self.hint, event)?;
