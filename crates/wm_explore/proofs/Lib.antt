@@ -26,6 +26,7 @@ pub mod Making
 pub mod ReadsOf
 pub mod Extending
 pub mod Idling
+pub mod Moving
 pub mod ShorterRuns
 pub mod Replacing
 pub mod Shortening

@@ -1,6 +1,6 @@
 -- Logs that are extended.
 use Rattle.std.proofs.Common.{◌≡◌, ℕ, zero, suc, ◌+◌, List, [], ◌∷◌, ◌++◌, length, take, Some, inl, inr, refl, sym, ap, ◌∙◌, arith}
-use Rattle.std.specs.Prelude.{◌≢◌, ◌⊎◌, slice_get}
+use Rattle.std.specs.Prelude.{◌≢◌, ◌⊎◌, slice_get, slice_set}
 use Rattle.std.proofs.lemmas.Option.{none-some, same_Some}
 use Rattle.wm_event.specs.declared.event.Event.{Event}
 use Rattle.wm_event.specs.declared.log.ThreadLog.{ThreadLog}
@@ -65,3 +65,17 @@ kept_pushed (z ∷ xs) y (suc i) x is = kept_pushed xs y i x is
 pub last_pushed : {X : Type 0} (xs : List X) (y : X) → slice_get (xs ++ y ∷ []) (length xs) ≡ Some y
 last_pushed [] y = refl
 last_pushed (z ∷ xs) y = last_pushed xs y
+
+-- ---- one item replaced
+
+-- an item of a list in which one was replaced
+pub at_set : {X : Type 0} (xs : List X) (n : ℕ) (y : X) (i : ℕ) (x : X) → slice_get (slice_set xs n y) i ≡ Some x → ((i ≡ n) × (x ≡ y)) ⊎ (slice_get xs i ≡ Some x)
+at_set [] n y i x is = inr is
+at_set (z ∷ xs) zero y zero x is = inl (refl, sym (same_Some y x is))
+at_set (z ∷ xs) zero y (suc i) x is = inr is
+at_set (z ∷ xs) (suc n) y zero x is = inr is
+at_set (z ∷ xs) (suc n) y (suc i) x is = further (at_set xs n y i x is)
+  where
+    further : ((i ≡ n) × (x ≡ y)) ⊎ (slice_get xs i ≡ Some x) → ((suc i ≡ suc n) × (x ≡ y)) ⊎ (slice_get xs i ≡ Some x)
+    further (inl h) = inl (ap suc h.0, h.1)
+    further (inr h) = inr h

@@ -18,7 +18,7 @@ use Rattle.wm_event.specs.declared.event.EventId.TheVariants.{Init, At}
 use Rattle.wm_event.specs.declared.event.EventKey.{EventKey}
 use Rattle.wm_explore.specs.Clocks.{Counts}
 use Rattle.wm_explore.specs.States.{HasArrived}
-use Rattle.wm_explore.specs.Past.{AreApart, AreGained, BreaksMark, CannotBegin, CannotGive, CannotTake, FindsCommon, HasNoSource, Hides, IsAfter, IsAhead, IsBefore, IsEarlier, IsFrom, IsGained, IsLike, IsOnly, IsOvertaken, IsPast, IsSource, IsStanding, IsTaken, IsThreadPast, KeepsMark, KnowsPast, Overwrites, StandsAfter, Synchronizes, TakesNext, WouldSynchronize, left_by}
+use Rattle.wm_explore.specs.Past.{AreApart, AreGained, BreaksMark, CannotBegin, CannotGive, CannotTake, FindsCommon, FindsFor, HasNoSource, Hides, IsAfter, IsAhead, IsBefore, IsEarlier, IsFrom, IsGained, IsLike, IsOnly, IsOvertaken, IsPast, IsSource, IsStanding, IsTaken, IsThreadPast, KeepsMark, KnowsPast, Overwrites, StandsAfter, Synchronizes, TakesNext, WouldSynchronize, left_by}
 use Rattle.wm_explore.specs.declared.clock.Clock.{Clock}
 use Rattle.wm_explore.specs.declared.past.Past.{Past}
 use Rattle.wm_explore.specs.declared.state.State.{State}
@@ -340,3 +340,8 @@ module _ (initial : List ℕ) (s : State) (e : Event) (knows : KnowsPast initial
       by : Counts c a ⊎ ((a.thread ≡ b.thread) × (a.number ≤ b.number)) → (a ≡ b) ⊎ (place (execution x) (At a) < place (execution x) (At b))
       by (inl counted) = inr (is a counted there)
       by (inr own) = number own.0 (cases_lt a.number b.number) own.1
+
+-- a source that the lowest byte isn't from changes nothing
+pub cannot_for : (initial : List ℕ) (s : State) (before : Past) (e : Event) (common : Option Past) (w : EventId) → CannotBegin initial s before e w → FindsFor initial s before e common w
+cannot_for initial s before e None w cannot = cannot
+cannot_for initial s before e (Some p) w cannot = inl cannot

@@ -1,8 +1,11 @@
 -- The bytes that an event reads and writes.
-use Rattle.std.proofs.Common.{◌≡◌, ℕ, ◌+◌, ◌-◌, ◌<◌, ◌≤◌, Bool, true, false, IsSome, sym, ap, ◌∙◌, arith, nat_le, nat_lt, ◌&&◌, if◌then◌else◌}
+use Rattle.std.proofs.Common.{◌≡◌, ℕ, ◌+◌, ◌-◌, ◌<◌, ◌≤◌, Bool, true, false, inl, inr, None, Some, IsSome, refl, sym, ap, ◌∙◌, arith, nat_le, nat_lt, ◌&&◌, if◌then◌else◌}
+use Rattle.std.specs.Prelude.{◌⊎◌}
 use borrow.Author.Tests.{tests}
-use Rattle.std.proofs.lemmas.Bool.{and_from, and_parts}
+use Rattle.std.proofs.lemmas.Bool.{and_from, and_left, and_parts, and_right, true≢false}
 use Rattle.wm_access.specs.AccessWidth.{bytes_of}
+use Rattle.wm_access.specs.declared.AccessWidth.{AccessWidth}
+use Rattle.wm_access.specs.declared.AccessWidth.TheVariants.{One, Two, Four, Eight}
 use Rattle.wm_event.specs.Byte.{byte_of}
 use Rattle.wm_event.specs.Event.{byte_written, range_of, writes}
 use Rattle.wm_event.specs.declared.event.Event.{Event}
@@ -38,3 +41,32 @@ written_bytes f e i k same some lt =
 
     high : e.address + k < f.address + bytes_of f.width
     high = omega (arith, address, width, lt)
+
+none_if : {X : Type 0} (b : Bool) (x : X) → b ≡ false → (if b then Some x else None) ≡ None
+none_if true x is = absurd (true≢false is)
+none_if false x is = refl
+
+test_above : (low a high : ℕ) → a < low → (nat_le low a && nat_lt a high) ≡ false
+test_above low a high l = grind (arith, tests)
+
+test_below : (low a high : ℕ) → high ≤ a → (nat_le low a && nat_lt a high) ≡ false
+test_below low a high h = grind (arith, tests)
+
+-- an event that doesn't write leaves no byte
+pub unwritten : (f : Event) (a : ℕ) → writes f ≡ false → byte_written f a ≡ None
+unwritten f a not = none_if (writes f && (nat_le f.address a && nat_lt a (f.address + bytes_of f.width))) (byte_of f.written (a - f.address)) (and_left (writes f) (nat_le f.address a && nat_lt a (f.address + bytes_of f.width)) not)
+
+-- nor does an event of another range
+pub unwritten_outside : (f : Event) (a : ℕ) → (a < f.address) ⊎ (f.address + bytes_of f.width ≤ a) → byte_written f a ≡ None
+unwritten_outside f a out = none_if (writes f && (nat_le f.address a && nat_lt a (f.address + bytes_of f.width))) (byte_of f.written (a - f.address)) (and_right (writes f) (nat_le f.address a && nat_lt a (f.address + bytes_of f.width)) (by out))
+  where
+    by : (a < f.address) ⊎ (f.address + bytes_of f.width ≤ a) → (nat_le f.address a && nat_lt a (f.address + bytes_of f.width)) ≡ false
+    by (inl l) = test_above f.address a (f.address + bytes_of f.width) l
+    by (inr h) = test_below f.address a (f.address + bytes_of f.width) h
+
+-- an access has a byte
+pub some_bytes : (w : AccessWidth) → 0 < bytes_of w
+some_bytes One = omega arith
+some_bytes Two = omega arith
+some_bytes Four = omega arith
+some_bytes Eight = omega arith

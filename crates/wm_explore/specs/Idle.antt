@@ -35,6 +35,10 @@ pub record IsIdle (m : Module) (k : ℕ) (t : ThreadLog) (i : ℕ) : Type 0 wher
   pub before : IsAt m k t i config
   pub after : IsAt m k t (length t.events) config
 
+-- its last events are such a turn
+abbrev pub EndsIdly : Module → ℕ → ThreadLog → Type 0
+EndsIdly m k t = (first : ℕ) × IsIdle m k t first
+
 -- the last events of some thread are such a turn
 pub record HasIdleTurn (m : Module) (log : List ThreadLog) : Type 0 where
   pub number : ℕ

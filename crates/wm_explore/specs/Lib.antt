@@ -2,8 +2,10 @@ pub mod Executions
 pub mod States
 pub mod Values
 pub mod Bounds
+pub mod Writing
 pub mod Turns
 pub mod Moved
+pub mod Cache
 pub mod Clocks
 pub mod Past
 pub mod Standing

@@ -1,8 +1,6 @@
 -- What is added next to a state.
-use Rattle.std.specs.Prelude.{◌≡◌, ◌≢◌, ℕ, ◌+◌, ◌<◌, ◌≤◌, ◌⊎◌, Bool, true, false, List, Option, None, Some, length, slice_get, nat_lt, if◌then◌else◌, option_and_then}
-use Rattle.wm_access.specs.AccessWidth.{bytes_of}
+use Rattle.std.specs.Prelude.{◌≡◌, ◌≢◌, ℕ, ◌<◌, ◌≤◌, ◌⊎◌, Bool, true, false, List, Option, None, Some, length, slice_get, nat_lt, if◌then◌else◌, option_and_then}
 use Rattle.wm_ast.specs.declared.module.Module.{Module}
-use Rattle.wm_event.specs.Event.{byte_written}
 use Rattle.wm_event.specs.Log.{event_in}
 use Rattle.wm_event.specs.Op.{kind_finds}
 use Rattle.wm_event.specs.declared.event.Event.{Event}
@@ -12,6 +10,7 @@ use Rattle.wm_event.specs.declared.op.OpFields.{OpFields}
 use Rattle.wm_explore.specs.declared.bound.Bound.{Bound}
 use Rattle.wm_explore.specs.declared.bound.Bound.TheVariants.{Steps, Events}
 use Rattle.wm_explore.specs.declared.state.State.{State}
+use Rattle.wm_explore.specs.Writing.{WritesNone}
 use Rattle.wm_explore.specs.declared.turn.Turn.{Turn}
 use Rattle.wm_explore.specs.declared.turn.Turn.TheVariants.{Nothing, Write, Read, Bounded, Stuck}
 use Rattle.wm_replay.specs.declared.continuing.Next.{Next}
@@ -41,9 +40,6 @@ FindsBound log nexts events (Some bound) = (k : ℕ) × (next : Next) × (slice_
 abbrev pub FindsWrite : List Next → Option Turn → Type 0
 FindsWrite nexts None = (k : ℕ) (op : OpFields) → slice_get nexts k ≡ Some (Access op) → kind_finds op.kind ≡ true
 FindsWrite nexts (Some turn) = (k : ℕ) × (op : OpFields) × (turn ≡ Write k op) × (slice_get nexts k ≡ Some (Access op)) × (kind_finds op.kind ≡ false)
-
-abbrev pub WritesNone : OpFields → Event → Type 0
-WritesNone op e = (byte : ℕ) → byte < bytes_of op.width → byte_written e (op.address + byte) ≡ None
 
 -- no event that arrived after the first ones writes a byte of the access
 abbrev pub HasNoNew : State → OpFields → ℕ → Type 0

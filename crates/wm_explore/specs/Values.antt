@@ -27,6 +27,10 @@ is_new place (Some count) = nat_le count place
 abbrev pub byte_left : List ThreadLog → EventKey → ℕ → Option ℕ
 byte_left log key a = option_and_then (λ e. byte_written e a) (event_in log key)
 
+-- the byte that the event left at the address that arrived at this place, if it writes there
+abbrev pub left_at : State → ℕ → ℕ → Option ℕ
+left_at s place a = option_and_then (λ key. byte_left s.log key a) (slice_get s.arrived place)
+
 -- a byte that a read of the address can have: the initial one, or one that an event left that has arrived
 pub data IsSource (s : State) (initial : List ℕ) (a : ℕ) (mark : Option ℕ) : Part → Type 0 where
   initially : (byte : ℕ) → slice_get initial a ≡ Some byte → IsSource s initial a mark record { value = byte; is_new = is_none mark }

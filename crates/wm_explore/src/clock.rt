@@ -7,7 +7,7 @@ use wm_event::{EventKey, MAX_THREADS};
 /// How many events of each thread come before an event or are it: the first ones of the thread.
 #[derive(Clone, Copy)]
 pub(crate) struct Clock {
-    pub per_thread: [u32; MAX_THREADS],
+    pub per_thread: [u16; MAX_THREADS],
 }
 
 impl Clock {
@@ -27,7 +27,7 @@ impl Clock {
         ensures { IsTrue result ↔ Counts self.now event }
     {
         match self.per_thread.get(event.thread as usize) {
-            Some(count) => event.number < *count,
+            Some(count) => event.number < u32::from(*count),
             None => false,
         }
     }
@@ -38,8 +38,8 @@ impl Clock {
     {
         let mut per_thread = self.per_thread;
         let lane = event.thread as usize;
-        if lane < MAX_THREADS && event.number < u32::MAX {
-            per_thread[lane] = event.number + 1;
+        if lane < MAX_THREADS && event.number < u32::from(u16::MAX) {
+            per_thread[lane] = event.number as u16 + 1;
         }
         Clock { per_thread }
     }

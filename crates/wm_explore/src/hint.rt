@@ -254,13 +254,12 @@ impl<'a> Taking<'a> {
 
 /// What happens before the next event of a thread, if it takes nothing from other threads, and it itself.
 fn next_clock(order: &[Happened], next: EventKey) -> Clock {
-    let mut clock = Clock::zero();
-    for happened in order {
+    for happened in order.iter().rev() {
         if happened.event.thread == next.thread {
-            clock = happened.clock;
+            return happened.clock.with(next);
         }
     }
-    clock.with(next)
+    Clock::zero().with(next)
 }
 
 /// Whether an event that isn't in the order yet leaves all bytes that another one reads, without synchronizing with it.
@@ -271,13 +270,29 @@ fn is_later_source(order: &[Happened], writer: &Happened, reader: &Event) -> boo
         && !order.iter().any(|other| other.event.key() == key)
 }
 
+/// A place for an update, which comes last in the order: after the last event that leaves all bytes that it reads.
+fn updating_fit(order: &[Happened], before: &Clock, event: Event) -> Fit {
+    for (place, writer) in order.iter().enumerate().rev() {
+        if leaves(&writer.event, &event) {
+            return Taking::of(event, Source::From(place, writer), before).fit(order);
+        }
+    }
+    Fit::Nowhere
+}
+
 /// A place for a new event that reads, which takes all bytes from the first source from which it can: so the least happens
-/// before it. Some events are to come later.
+/// before it. An update takes them from the last one, if it can. Some events are to come later.
 fn reading_fit(order: &[Happened], later: &[Happened], initial: &Initial, event: Event) -> Fit {
     let before = next_clock(order, event.key());
     let mut fit = Fit::Nowhere;
+    if event.writes() {
+        fit = updating_fit(order, &before, event);
+    }
+    if let Fit::At(_) = fit {
+        return fit;
+    }
     if begins_with(initial, &event) {
-        fit = Taking::of(event, Source::Init, &before).fit(order);
+        fit = fit.or(Taking::of(event, Source::Init, &before).fit(order));
     }
     for (place, writer) in order.iter().enumerate() {
         if let Fit::At(_) = fit {
@@ -404,16 +419,12 @@ impl Hint {
 
     /// The same with an event at a place.
     fn inserted(&self, alloc: Global, spot: &Spot) -> Result<Self, AllocError> {
+        let place = spot.place.min(self.order.len());
+        let (earlier, later) = self.order.as_slice().split_at(place);
         let mut order = Vec::with_capacity(alloc, self.order.len().saturating_add(1))?;
-        for (place, happened) in self.order.as_slice().iter().enumerate() {
-            if place == spot.place {
-                order.push(spot.happened)?;
-            }
-            order.push(*happened)?;
-        }
-        if spot.place >= self.order.len() {
-            order.push(spot.happened)?;
-        }
+        order.extend_from_slice(earlier)?;
+        order.push(spot.happened)?;
+        order.extend_from_slice(later)?;
         Ok(Hint { order })
     }
 

@@ -1,18 +1,15 @@
 //! Turns in which a thread only reads and comes back to where it was.
 ghost use Rattle.std.specs.Prelude.{◌≡◌, ◌≤◌, true, length, IfOk, IfSome};
-ghost use Rattle.wm_explore.specs.Idle.{HasIdleTurn, IsAfter, IsAt, IsIdle};
+ghost use Rattle.wm_explore.specs.Idle.{EndsIdly, IsAfter, IsAt, IsIdle};
 ghost use Rattle.wm_machine.specs.State.{config_of};
-ghost use Rattle.wm_explore.specs.Moved.{IsMoved};
 ghost use Rattle.wm_replay.specs.Complete.{RunsWithinLimit};
 ghost use Rattle.wm_replay.specs.Following.{HasPlaces};
 
 use crate::copies::first_events;
-use crate::moved::Moved;
-use crate::state::State;
 use std::alloc::{AllocError, Global};
 use wm_event::{Event, MAX_STEPS, Op, ThreadLog};
 use wm_machine::{CodePosition, Need, Thread};
-use wm_replay::{Followed, Next, follow};
+use wm_replay::{Followed, follow};
 use wm_valid::ValidModule;
 
 /// A thread that was run after the events of its log, if it makes them within [`MAX_STEPS`] steps.
@@ -107,14 +104,14 @@ fn idle_from(
 }
 
 /// Whether what a thread does next could make one of its last events again, which only read.
-fn could_be_idle(stated: &ThreadLog, next: Option<&Next>) -> bool {
-    let Some(Next::Access(op)) = next else {
+fn could_be_idle(stated: &ThreadLog, now: &Followed) -> bool {
+    let Need::Access(op) = now.thread.next() else {
         return false;
     };
     let events = stated.events.as_slice();
     for later in 0..events.len() {
         let event = &events[events.len() - 1 - later];
-        match (event.writes(), is_made_by(event, *op)) {
+        match (event.writes(), is_made_by(event, op)) {
             (true, _) => return false,
             (false, true) => return true,
             (false, false) => {}
@@ -123,29 +120,22 @@ fn could_be_idle(stated: &ThreadLog, next: Option<&Next>) -> bool {
     false
 }
 
-/// Whether the last events of the thread that moved are an idle turn, where the threads do this next.
+/// Whether the last events of the log of a thread are an idle turn, by which it was run.
 pub(crate) fn ends_idly(
     alloc: Global,
     module: &ValidModule,
-    state: &State,
-    nexts: &[Next],
-    moved: &Option<Moved>,
+    stated: &ThreadLog,
+    number: usize,
+    now: &Followed,
 ) -> Result<bool, AllocError>
-    requires { IfSome moved.now (IsMoved «module».now state.now) }
-    ensures { IfOk result (λ idle. idle ≡ true → HasIdleTurn «module».now state.now.log) }
+    requires places { HasPlaces number stated.now.events }
+    requires runs { RunsWithinLimit number stated.now now.now }
+    requires same { now.now.thread.module ≡ «module».now }
+    ensures { IfOk result (λ idle. idle ≡ true → EndsIdly «module».now number stated.now) }
 {
-    let Some(moved) = moved else {
+    if !could_be_idle(stated, now) {
         return Ok(false);
-    };
-    let number = moved.number;
-    match state.log.threads().get(number) {
-        None => Ok(false),
-        Some(stated) => {
-            if !could_be_idle(stated, nexts.get(number)) {
-                return Ok(false);
-            }
-            let found = idle_from(alloc, module, stated, number, &moved.followed)?;
-            Ok(found.is_some())
-        }
     }
+    let found = idle_from(alloc, module, stated, number, now)?;
+    Ok(found.is_some())
 }

@@ -3,6 +3,7 @@
 
 mod asking;
 mod bound;
+mod cache;
 mod clock;
 mod copies;
 mod exploration;
@@ -19,6 +20,7 @@ mod subtrees;
 mod turn;
 mod uniform;
 mod values;
+mod writing;
 
 pub use bound::{Bound, Limits};
 pub use exploration::{Exploration, Finished};

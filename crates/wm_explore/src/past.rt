@@ -1,11 +1,12 @@
 //! What surely holds of an event that is added to a state, whichever events wrote the bytes that were read.
-ghost use Rattle.std.specs.Prelude.{◌≡◌, ◌↔◌, ◌<◌, ℕ, List, Some, true, false, IfSome, IsTrue, slice_get};
+ghost use Rattle.std.specs.Prelude.{◌≡◌, ◌↔◌, ◌+◌, ◌<◌, ℕ, List, Some, true, false, IfSome, IsTrue, slice_get};
 ghost use Rattle.wm_event.specs.Event.{key_of};
 ghost use Rattle.wm_event.specs.Rules.{IsTearFree};
 ghost use Rattle.wm_event.specs.declared.event.EventId.{EventId};
 ghost use Rattle.wm_event.specs.declared.event.Event.{Event};
 ghost use Rattle.wm_event.specs.declared.event.EventId.TheVariants.{At, Init};
 ghost use Rattle.wm_explore.specs.Past.{AreApart, AreGainedAt, BreaksMark, CannotBegin, CannotGive, CannotGiveBeside, CannotTake, ComesAfter, FindsCommon, FindsFor, FindsPast, HasNoSource, Hides, IsAfter, IsEarlier, IsLike, IsOvertaken, IsRival, IsTaken, IsThreadPast, IsUpdateLike, KnowsPast, Overwrites, StandsAfter, StandsBetween, TakesNothing, TakesNothingNew, WouldSynchronize, WouldTear, left_by};
+ghost use Rattle.wm_explore.specs.Writing.{ListsAt, ListsWriting};
 
 use crate::clock::Clock;
 use crate::state::State;
@@ -59,14 +60,13 @@ fn earlier(state: &State, place: usize, next: EventKey) -> Option<Past>
 fn before_next(state: &State, next: EventKey) -> Past
     ensures { IsThreadPast state.now next result }
 {
-    let mut before = Past::unknown();
-    for place in 0..state.arrived.len() {
-        match earlier(state, place, next) {
-            None => {}
-            Some(past) => before = past,
+    let count = state.arrived.len();
+    for later in 0..count {
+        if let Some(past) = earlier(state, count - 1 - later, next) {
+            return past;
         }
     }
-    before
+    Past::unknown()
 }
 
 /// Whether the event that arrived at a place, which is `key`, comes after a source.
@@ -102,10 +102,18 @@ fn hides(state: &State, before: &Clock, place: usize, source: EventId, address: 
 }
 
 /// Whether some event surely writes an address after a source and before the next event.
-fn is_hidden(state: &State, before: &Clock, source: EventId, address: u64) -> bool
+fn is_hidden(
+    state: &State,
+    writing: &[usize],
+    before: &Clock,
+    source: EventId,
+    address: u64,
+) -> bool
     ensures { result ≡ true → (place : ℕ) × Hides state.now before.now place source address }
 {
-    for place in 0..state.arrived.len() {
+    // A later event is more likely to come after the source.
+    for later in 0..writing.len() {
+        let place = writing[writing.len() - 1 - later];
         if hides(state, before, place, source, address) {
             return true;
         }
@@ -126,6 +134,7 @@ fn left(state: &State, initial: &Initial, source: EventId, address: u64) -> Opti
 /// Whether the next event can have a byte from a source: the value is the one read, and nothing surely hides it.
 fn can_give(
     state: &State,
+    writing: &[usize],
     initial: &Initial,
     before: &Clock,
     next: &Event,
@@ -142,7 +151,7 @@ fn can_give(
             if value != byte_of(next.read, byte) {
                 return false;
             }
-            !is_hidden(state, before, source, address)
+            !is_hidden(state, writing, before, source, address)
         }
     }
 }
@@ -207,7 +216,13 @@ fn comes_after(state: &State, place: usize, source: EventId, other: EventId) -> 
 
 /// Whether a source comes after another one, where the next event would synchronize with it: so it writes each byte that the
 /// other one writes of those.
-fn overwrites(state: &State, next: &Event, source: EventId, other: EventId) -> bool
+fn overwrites(
+    state: &State,
+    writing: &[usize],
+    next: &Event,
+    source: EventId,
+    other: EventId,
+) -> bool
     ensures { result ≡ true → Overwrites state.now next.now source other }
 {
     if !next.is_atomic() {
@@ -216,8 +231,8 @@ fn overwrites(state: &State, next: &Event, source: EventId, other: EventId) -> b
     if !would_synchronize(state, next, source) {
         return false;
     }
-    for place in 0..state.arrived.len() {
-        if comes_after(state, place, source, other) {
+    for place in writing {
+        if comes_after(state, *place, source, other) {
             return true;
         }
     }
@@ -241,21 +256,28 @@ fn would_tear(state: &State, next: &Event, source: EventId, other: EventId) -> b
 }
 
 /// Whether the next event doesn't take bytes from both sources.
-fn are_apart(state: &State, next: &Event, source: EventId, other: EventId) -> bool
+fn are_apart(
+    state: &State,
+    writing: &[usize],
+    next: &Event,
+    source: EventId,
+    other: EventId,
+) -> bool
     ensures { result ≡ true → AreApart state.now next.now source other }
 {
     if would_tear(state, next, source, other) {
         return true;
     }
-    if overwrites(state, next, source, other) {
+    if overwrites(state, writing, next, source, other) {
         return true;
     }
-    overwrites(state, next, other, source)
+    overwrites(state, writing, next, other, source)
 }
 
 /// Whether the next event can have a byte from a source where its lowest byte is from `first`.
 fn can_give_beside(
     state: &State,
+    writing: &[usize],
     initial: &Initial,
     before: &Clock,
     next: &Event,
@@ -266,34 +288,39 @@ fn can_give_beside(
     requires { byte < 8 }
     ensures { result ≡ false → CannotGiveBeside initial.now state.now before.now next.now first byte source }
 {
-    if !can_give(state, initial, before, next, byte, source) {
+    if !can_give(state, writing, initial, before, next, byte, source) {
         return false;
     }
-    !are_apart(state, next, first, source)
+    !are_apart(state, writing, next, first, source)
 }
 
 /// Whether the next event can have a byte from some source where its lowest byte is from `first`.
 fn has_source(
     state: &State,
+    writing: &[usize],
     initial: &Initial,
     before: &Clock,
     next: &Event,
     first: EventId,
     byte: u8,
 ) -> bool
-    requires { byte < 8 }
+    requires byte { byte < 8 }
+    requires writing { ListsAt state.now (next.now.address + byte) writing.now }
     ensures { result ≡ false → HasNoSource initial.now state.now before.now next.now first byte }
 {
-    if can_give(state, initial, before, next, byte, first) {
+    if can_give(state, writing, initial, before, next, byte, first) {
         return true;
     }
-    if can_give_beside(state, initial, before, next, first, byte, EventId::Init) {
+    let init = EventId::Init;
+    if can_give_beside(state, writing, initial, before, next, first, byte, init) {
         return true;
     }
-    let arrived = state.arrived.as_slice();
-    for place in 0..arrived.len() {
-        let source = EventId::At(arrived[place]);
-        if can_give_beside(state, initial, before, next, first, byte, source) {
+    for place in writing {
+        let Some(key) = state.arrived.get(*place) else {
+            continue;
+        };
+        let source = EventId::At(*key);
+        if can_give_beside(state, writing, initial, before, next, first, byte, source) {
             return true;
         }
     }
@@ -334,7 +361,7 @@ fn is_rival(state: &State, next: &Event, place: usize, source: EventId) -> bool
 }
 
 /// Whether an update surely takes its lowest byte from a source, so that the next event, an update of its range, doesn't.
-fn is_taken(state: &State, next: &Event, source: EventId) -> bool
+fn is_taken(state: &State, writing: &[usize], next: &Event, source: EventId) -> bool
     ensures { result ≡ true → IsTaken state.now next.now source }
 {
     if !next.is_atomic() {
@@ -346,8 +373,8 @@ fn is_taken(state: &State, next: &Event, source: EventId) -> bool
     if !would_synchronize(state, next, source) {
         return false;
     }
-    for place in 0..state.arrived.len() {
-        if is_rival(state, next, place, source) {
+    for place in writing {
+        if is_rival(state, next, *place, source) {
             return true;
         }
     }
@@ -388,7 +415,13 @@ fn stands_between(state: &State, order: &Clock, next: &Event, place: usize, sour
 }
 
 /// Whether an atomic write stands between a source and the next event, which so doesn't synchronize with that source.
-fn is_overtaken(state: &State, order: &Clock, next: &Event, source: EventId) -> bool
+fn is_overtaken(
+    state: &State,
+    writing: &[usize],
+    order: &Clock,
+    next: &Event,
+    source: EventId,
+) -> bool
     ensures { result ≡ true → IsOvertaken state.now order.now next.now source }
 {
     if !next.is_atomic() {
@@ -397,8 +430,8 @@ fn is_overtaken(state: &State, order: &Clock, next: &Event, source: EventId) -> 
     if !would_synchronize(state, next, source) {
         return false;
     }
-    for place in 0..state.arrived.len() {
-        if stands_between(state, order, next, place, source) {
+    for place in writing {
+        if stands_between(state, order, next, *place, source) {
             return true;
         }
     }
@@ -406,20 +439,28 @@ fn is_overtaken(state: &State, order: &Clock, next: &Event, source: EventId) -> 
 }
 
 /// Whether the next event can have its lowest byte from a source.
-fn can_begin(state: &State, initial: &Initial, before: &Past, next: &Event, source: EventId) -> bool
+fn can_begin(
+    state: &State,
+    writing: &[usize],
+    initial: &Initial,
+    before: &Past,
+    next: &Event,
+    source: EventId,
+) -> bool
+    requires { ListsWriting state.now next.now.address next.now.width writing.now }
     ensures { result ≡ false → CannotBegin initial.now state.now before.now next.now source }
 {
-    if !can_give(state, initial, &before.clock, next, 0, source) {
+    if !can_give(state, writing, initial, &before.clock, next, 0, source) {
         return false;
     }
-    if is_taken(state, next, source) {
+    if is_taken(state, writing, next, source) {
         return false;
     }
-    if is_overtaken(state, &before.order, next, source) {
+    if is_overtaken(state, writing, &before.order, next, source) {
         return false;
     }
     for byte in 1..next.width.bytes() {
-        if !has_source(state, initial, &before.clock, next, source, byte) {
+        if !has_source(state, writing, initial, &before.clock, next, source, byte) {
             return false;
         }
     }
@@ -444,10 +485,17 @@ fn gained(state: &State, next: &Event, place: usize, key: EventKey) -> Past
 }
 
 /// What surely holds of the next event if its lowest byte is from the initial memory; None if it isn't.
-fn gained_initially(state: &State, initial: &Initial, before: &Past, next: &Event) -> Option<Past>
+fn gained_initially(
+    state: &State,
+    writing: &[usize],
+    initial: &Initial,
+    before: &Past,
+    next: &Event,
+) -> Option<Past>
+    requires { ListsWriting state.now next.now.address next.now.width writing.now }
     ensures { FindsFor initial.now state.now before.now next.now result Init }
 {
-    if !can_begin(state, initial, before, next, EventId::Init) {
+    if !can_begin(state, writing, initial, before, next, EventId::Init) {
         return None;
     }
     Some(Past {
@@ -460,6 +508,7 @@ fn gained_initially(state: &State, initial: &Initial, before: &Past, next: &Even
 /// at a place.
 fn gained_too(
     state: &State,
+    writing: &[usize],
     initial: &Initial,
     before: &Past,
     next: &Event,
@@ -467,12 +516,13 @@ fn gained_too(
     place: usize,
     key: EventKey,
 ) -> Option<Past>
-    requires { slice_get state.now.arrived place ≡ Some key }
+    requires writing { ListsWriting state.now next.now.address next.now.width writing.now }
+    requires arrived { slice_get state.now.arrived place ≡ Some key }
     ensures here { FindsFor initial.now state.now before.now next.now result (At key) }
     ensures kept { (w : EventId) → FindsFor initial.now state.now before.now next.now common w →
         FindsFor initial.now state.now before.now next.now result w }
 {
-    if !can_begin(state, initial, before, next, EventId::At(key)) {
+    if !can_begin(state, writing, initial, before, next, EventId::At(key)) {
         return common;
     }
     let gained = gained(state, next, place, key);
@@ -490,13 +540,22 @@ fn gained_too(
 }
 
 /// What surely holds of the next event, from whichever source its lowest byte is; None if it is from none.
-fn common_past(state: &State, initial: &Initial, before: &Past, next: &Event) -> Option<Past>
+fn common_past(
+    state: &State,
+    writing: &[usize],
+    initial: &Initial,
+    before: &Past,
+    next: &Event,
+) -> Option<Past>
+    requires { ListsWriting state.now next.now.address next.now.width writing.now }
     ensures { FindsCommon initial.now state.now before.now next.now result }
 {
-    let mut common = gained_initially(state, initial, before, next);
-    let arrived = state.arrived.as_slice();
-    for place in 0..arrived.len() {
-        common = gained_too(state, initial, before, next, common, place, arrived[place]);
+    let mut common = gained_initially(state, writing, initial, before, next);
+    for place in writing {
+        let Some(key) = state.arrived.get(*place) else {
+            continue;
+        };
+        common = gained_too(state, writing, initial, before, next, common, *place, *key);
     }
     common
 }
@@ -504,20 +563,22 @@ fn common_past(state: &State, initial: &Initial, before: &Past, next: &Event) ->
 /// Whether the next event can take a byte from a source: each other byte has a source beside that.
 fn can_take(
     state: &State,
+    writing: &[usize],
     initial: &Initial,
     before: &Clock,
     next: &Event,
     byte: u8,
     source: EventId,
 ) -> bool
-    requires { byte < 8 }
+    requires byte { byte < 8 }
+    requires writing { ListsWriting state.now next.now.address next.now.width writing.now }
     ensures { result ≡ false → CannotTake initial.now state.now before.now next.now byte source }
 {
-    if !can_give(state, initial, before, next, byte, source) {
+    if !can_give(state, writing, initial, before, next, byte, source) {
         return false;
     }
     for other in 0..next.width.bytes() {
-        if !has_source(state, initial, before, next, source, other) {
+        if !has_source(state, writing, initial, before, next, source, other) {
             return false;
         }
     }
@@ -527,15 +588,17 @@ fn can_take(
 /// Whether the next event can take some byte from a source.
 fn can_take_any(
     state: &State,
+    writing: &[usize],
     initial: &Initial,
     before: &Clock,
     next: &Event,
     source: EventId,
 ) -> bool
+    requires { ListsWriting state.now next.now.address next.now.width writing.now }
     ensures { result ≡ false → TakesNothing initial.now state.now before.now next.now source }
 {
     for byte in 0..next.width.bytes() {
-        if can_take(state, initial, before, next, byte, source) {
+        if can_take(state, writing, initial, before, next, byte, source) {
             return true;
         }
     }
@@ -545,16 +608,23 @@ fn can_take_any(
 /// Whether the next event can take some byte from an event that is not among the first `count` that arrived.
 fn can_take_new(
     state: &State,
+    writing: &[usize],
     initial: &Initial,
     before: &Clock,
     next: &Event,
     count: usize,
 ) -> bool
+    requires { ListsWriting state.now next.now.address next.now.width writing.now }
     ensures { result ≡ false → TakesNothingNew initial.now state.now before.now next.now count }
 {
-    let arrived = state.arrived.as_slice();
-    for place in count..arrived.len() {
-        if can_take_any(state, initial, before, next, EventId::At(arrived[place])) {
+    for place in writing {
+        if *place < count {
+            continue;
+        }
+        let Some(key) = state.arrived.get(*place) else {
+            continue;
+        };
+        if can_take_any(state, writing, initial, before, next, EventId::At(*key)) {
             return true;
         }
     }
@@ -562,12 +632,19 @@ fn can_take_new(
 }
 
 /// Whether the next event can be what the mark of its thread asks for, if there is one.
-fn can_keep_mark(state: &State, initial: &Initial, before: &Clock, next: &Event) -> bool
+fn can_keep_mark(
+    state: &State,
+    writing: &[usize],
+    initial: &Initial,
+    before: &Clock,
+    next: &Event,
+) -> bool
+    requires { ListsWriting state.now next.now.address next.now.width writing.now }
     ensures { result ≡ false → BreaksMark initial.now state.now before.now next.now }
 {
     match state.mark(next.thread as usize) {
         None => true,
-        Some(count) => can_take_new(state, initial, before, next, count),
+        Some(count) => can_take_new(state, writing, initial, before, next, count),
     }
 }
 
@@ -585,17 +662,23 @@ pub(crate) fn past_of_write(state: &State, next: EventKey) -> Past
 
 /// What surely holds of an event that is added to a state; None if no valid execution that keeps the mark of its thread has
 /// it there.
-pub(crate) fn past_of(state: &State, initial: &Initial, next: &Event) -> Option<Past>
+pub(crate) fn past_of(
+    state: &State,
+    writing: &[usize],
+    initial: &Initial,
+    next: &Event,
+) -> Option<Past>
+    requires { ListsWriting state.now next.now.address next.now.width writing.now }
     ensures { KnowsPast initial.now state.now → FindsPast initial.now state.now next.now result }
 {
     if !next.reads() {
         return Some(past_of_write(state, next.key()));
     }
     let before = before_next(state, next.key());
-    if !can_keep_mark(state, initial, &before.clock, next) {
+    if !can_keep_mark(state, writing, initial, &before.clock, next) {
         return None;
     }
-    match common_past(state, initial, &before, next) {
+    match common_past(state, writing, initial, &before, next) {
         None => None,
         Some(common) => Some(Past {
             clock: before.clock.joined(&common.clock).with(next.key()),

@@ -11,20 +11,22 @@ ghost use Rattle.wm_explore.specs.Search.{AddsPermitted, AddsRead, Explores, IsF
 ghost use Rattle.wm_explore.specs.Subtrees.{Advances};
 ghost use Rattle.wm_explore.specs.States.{count_in, extended};
 ghost use Rattle.wm_explore.specs.Turns.{AreNexts, EachEndsIn, MakesNext};
+ghost use Rattle.wm_explore.specs.Writing.{ListsWriting};
 
 use crate::bound::{Bound, Limits};
+use crate::cache::Cache;
 use crate::copies::copied_start;
 use crate::exploration::{Exploration, Finished};
 use crate::hint::Hint;
-use crate::idle::ends_idly;
 use crate::judge::{Permission, judged};
-use crate::moved::last_moved;
+use crate::moved::{is_idle, last_moved};
 use crate::past::past_of_write;
 use crate::standing::{pasts_of, pasts_with};
 use crate::state::State;
 use crate::subtrees::explore_some;
 use crate::turn::{Turn, nexts, turn_of};
 use crate::values::values;
+use crate::writing::writing;
 use std::alloc::{AllocError, AllocGlobal, Global};
 use std::thread::Threads;
 use wm_event::{End, Event, EventKey, Initial, Log, Op, Start, ThreadLog};
@@ -201,14 +203,16 @@ fn add_read(
     nodes: u64,
     state: &State,
     nexts: &[Next],
+    writing: &[usize],
     work: &mut Vec<State>,
     thread: usize,
     event: Event,
 ) -> Result<(), AllocError>
-    requires { IsLog (extended thread event state.now.log) }
+    requires log { IsLog (extended thread event state.now.log) }
+    requires writing { ListsWriting state.now event.address event.width writing.now }
     ensures { OnOk result (AddsRead initial.now nexts.now thread event state.now work.old.items work.new.items) }
 {
-    match pasts_of(alloc, state, initial, &event)? {
+    match pasts_of(alloc, state, writing, initial, &event)? {
         None => Ok(()),
         Some(pasts) => {
             let child = state.with(alloc, initial, nexts, thread, event, pasts)?;
@@ -236,7 +240,10 @@ fn add_reads(
     ensures { OnOk result (IsStep «module».now limits.events state progress.old progress.new) }
 {
     let initial = module.initial();
-    let values = values(alloc, &state, initial, op.fields(), state.mark(thread))?;
+    let writing = writing(alloc, &state, op.fields())?;
+    let writing = writing.as_slice();
+    let mark = state.mark(thread);
+    let values = values(alloc, &state, writing, initial, op.fields(), mark)?;
     for value in values.as_slice() {
         let event = next_event(&state, thread, op, *value);
         add_read(
@@ -245,6 +252,7 @@ fn add_reads(
             limits.nodes,
             &state,
             nexts,
+            writing,
             &mut progress.work,
             thread,
             event,
@@ -336,18 +344,18 @@ pub(crate) fn advance(
     requires progress { IsProgress «module».now starts.now progress.old }
     ensures { OnOk result (Advances «module».now starts.now limits.events progress.old progress.new) }
 {
+    let mut cache = Cache::new(alloc)?;
     for graphs in 0..most {
         match progress.work.pop() {
             None => return Ok(graphs),
             Some(state) => {
-                let moved = last_moved(alloc, module, &state)?;
-                let nexts = nexts(alloc, module, &state, &moved)?;
-                let nexts = nexts.as_slice();
+                let moved = last_moved(alloc, module, &state, &mut cache)?;
                 // An execution that goes on from here has a shorter one with its ends.
-                if ends_idly(alloc, module, &state, nexts, &moved)? {
+                if is_idle(&moved) {
                     continue;
                 }
-                extend(alloc, module, limits, state, nexts, progress)?;
+                let nexts = nexts(alloc, module, &state, &moved)?;
+                extend(alloc, module, limits, state, nexts.as_slice(), progress)?;
             }
         }
     }

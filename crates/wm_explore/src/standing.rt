@@ -3,6 +3,7 @@ ghost use Rattle.std.specs.Prelude.{◌≡◌, Some, true, IfOk, IsTrue, slice_g
 ghost use Rattle.wm_event.specs.Event.{is_atomic, writes};
 ghost use Rattle.wm_explore.specs.Past.{FindsPasts, KnowsPast, WouldSynchronize};
 ghost use Rattle.wm_explore.specs.Standing.{AreKnownBy, AreLaterWrites, AreOverwriting, AreRaised, CountsAny, CountsSource, IsLaterWrite, IsRaised, IsReadBefore, KeepsBeforeNext};
+ghost use Rattle.wm_explore.specs.Writing.{ListsWriting};
 
 use crate::clock::Clock;
 use crate::past::{Past, is_update_like, past_of, stands_after, would_synchronize};
@@ -173,6 +174,10 @@ fn all_raised(
     ensures { IfOk result (AreRaised keys.now order.now pasts.now) }
 {
     let mut all = Vec::with_capacity(alloc, pasts.len().saturating_add(1))?;
+    if keys.is_empty() {
+        all.extend_from_slice(pasts)?;
+        return Ok(List::from_vec(all));
+    }
     for past in pasts {
         all.push(raised(past, keys, order))?;
     }
@@ -203,12 +208,14 @@ pub(crate) fn pasts_with(
 pub(crate) fn pasts_of(
     alloc: Global,
     state: &State,
+    writing: &[usize],
     initial: &Initial,
     next: &Event,
 ) -> Result<Option<List<Past>>, AllocError>
+    requires { ListsWriting state.now next.now.address next.now.width writing.now }
     ensures { IfOk result (λ found. KnowsPast initial.now state.now → FindsPasts initial.now state.now next.now found) }
 {
-    match past_of(state, initial, next) {
+    match past_of(state, writing, initial, next) {
         None => Ok(None),
         Some(past) => Ok(Some(pasts_with(alloc, state, next, past)?)),
     }

@@ -24,7 +24,7 @@ const GRAPHS_AT_ONCE: u64 = 1_024;
 const FEW_STATES: usize = 16;
 
 /// The most graphs that are extended from each of a few states, so that there are soon more of them.
-const GRAPHS_OF_FEW: u64 = 512;
+const GRAPHS_OF_FEW: u64 = 2_048;
 
 /// What came of a state.
 #[derive(Drop)]

@@ -1,21 +1,21 @@
 //! What is added next to a state.
 ghost use Rattle.std.specs.Prelude.{◌≡◌, IfOk, IfSome, None, Some, true, false};
 ghost use Rattle.wm_ast.specs.declared.module.Module.{Module};
-ghost use Rattle.wm_event.specs.Log.{event_in};
 ghost use Rattle.wm_event.specs.Op.{kind_finds};
 ghost use Rattle.wm_explore.specs.Known.{KnowsNexts};
-ghost use Rattle.wm_explore.specs.Moved.{IsMoved, IsMovedBy};
-ghost use Rattle.wm_explore.specs.Turns.{AreNexts, EachEnds, FindsBound, FindsRead, FindsWrite, HasNoNew, IsTurn, WaitsFor, WritesNone, bound_at};
+ghost use Rattle.wm_explore.specs.Moved.{IsMoved, MovesSo};
+ghost use Rattle.wm_explore.specs.Turns.{AreNexts, EachEnds, FindsBound, FindsRead, FindsWrite, HasNoNew, IsTurn, WaitsFor, bound_at};
 ghost use Rattle.wm_replay.specs.Continuing.{ContinuesSo};
 ghost use Rattle.wm_replay.specs.Following.{HasPlaces};
 
 use crate::bound::Bound;
 use crate::moved::Moved;
 use crate::state::State;
+use crate::writing::is_writer;
 use std::alloc::{AllocError, Global};
-use wm_event::{Event, EventKey, Op, OpFields, ThreadLog};
+use wm_event::{Op, OpFields, ThreadLog};
 use wm_list::List;
-use wm_replay::{Next, next_after, next_of};
+use wm_replay::{Next, next_after};
 use wm_valid::ValidModule;
 
 /// What is added next to a state.
@@ -42,13 +42,13 @@ fn next_of_thread(
     number: usize,
 ) -> Result<Next, AllocError>
     requires places { HasPlaces number stated.now.events }
-    requires moved { IfSome moved.now (IsMovedBy «module».now number stated.now) }
+    requires moved { IfSome moved.now (MovesSo «module».now number stated.now) }
     ensures { IfOk result (ContinuesSo «module».now number stated.now) }
 {
     if let Some(moved) = moved
         && moved.number == number
     {
-        return Ok(next_of(&moved.followed, stated, number));
+        return Ok(moved.next);
     }
     match next_after(alloc, module, stated, number)? {
         Err(_) => Ok(Next::Ends),
@@ -56,7 +56,7 @@ fn next_of_thread(
     }
 }
 
-/// What each thread of a state does next. It is found by running those of which it isn't known; one was run.
+/// What each thread of a state does next. It is found by running those of which it isn't known, but for the one that moved.
 pub(crate) fn nexts(
     alloc: Global,
     module: &ValidModule,
@@ -137,29 +137,6 @@ fn first_write(nexts: &[Next]) -> Option<Turn>
         }
     }
     None
-}
-
-/// Whether an event writes a byte of an access.
-fn writes_in(event: &Event, op: OpFields) -> bool
-    ensures { result ≡ false → WritesNone op event.now }
-{
-    for byte in 0..op.width.bytes() {
-        let address = u64::from(op.address) + u64::from(byte);
-        if event.byte_written(address).is_some() {
-            return true;
-        }
-    }
-    false
-}
-
-/// Whether the event of that name writes a byte of an access.
-fn is_writer(state: &State, key: EventKey, op: OpFields) -> bool
-    ensures { result ≡ false → (e : Event) → event_in state.now.log key ≡ Some e → WritesNone op e }
-{
-    match state.log.event(key) {
-        None => false,
-        Some(event) => writes_in(event, op),
-    }
 }
 
 /// Whether one of the events that arrived after the first `count` writes a byte of an access.

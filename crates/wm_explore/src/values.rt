@@ -1,6 +1,7 @@
 //! The values that a read can have.
 ghost use Rattle.std.specs.Prelude.{◌≡◌, IfOk, OnOk};
-ghost use Rattle.wm_explore.specs.Values.{Adds, KeepsNew, OffersAll, OffersInitial, ReadsAll, WidensTo, byte_left as spec_byte_left, is_new as spec_is_new, joined as spec_joined};
+ghost use Rattle.wm_explore.specs.Values.{Adds, KeepsNew, OffersAll, OffersInitial, ReadsAll, WidensTo, byte_left as spec_byte_left, is_new as spec_is_new, joined as spec_joined, left_at as spec_left_at};
+ghost use Rattle.wm_explore.specs.Writing.{ListsAt, ListsWriting};
 
 use crate::state::State;
 use std::alloc::{AllocError, Global};
@@ -65,25 +66,33 @@ pub(crate) fn byte_left(state: &State, key: EventKey, address: u64) -> Option<u8
     state.log.event(key)?.byte_written(address)
 }
 
+/// The byte that the event left at an address that arrived at this place, if it writes there.
+fn left_at(state: &State, place: usize, address: u64) -> Option<u8>
+    ensures { result ≡ spec_left_at state.now place address }
+{
+    byte_left(state, *state.arrived.get(place)?, address)
+}
+
 /// The bytes that a read of an address can have: the initial one and those that events left that have arrived. New are
 /// those of events after the first `mark`; without a mark all are.
 fn offers(
     alloc: Global,
     state: &State,
+    writing: &[usize],
     initial: &Initial,
     address: u64,
     mark: Option<usize>,
 ) -> Result<List<Part>, AllocError>
+    requires { ListsAt state.now address writing.now }
     ensures { IfOk result (OffersAll state.now initial.now address mark) }
 {
     let mut offers = initial_offers(alloc, initial, address, mark)?;
-    let arrived = state.arrived.as_slice();
-    for place in 0..arrived.len() {
-        match byte_left(state, arrived[place], address) {
+    for place in writing {
+        match left_at(state, *place, address) {
             None => {}
             Some(byte) => {
                 let value = u64::from(byte);
-                let is_new = is_new(place, mark);
+                let is_new = is_new(*place, mark);
                 add(&mut offers, Part { value, is_new })?;
             }
         }
@@ -132,10 +141,12 @@ fn new_values(alloc: Global, parts: &[Part]) -> Result<List<u64>, AllocError>
 pub(crate) fn values(
     alloc: Global,
     state: &State,
+    writing: &[usize],
     initial: &Initial,
     op: OpFields,
     mark: Option<usize>,
 ) -> Result<List<u64>, AllocError>
+    requires { ListsWriting state.now op.address op.width writing.now }
     ensures { IfOk result (ReadsAll state.now initial.now op mark) }
 {
     let width = op.width.bytes();
@@ -146,7 +157,7 @@ pub(crate) fn values(
     })?;
     for done in 0..width {
         let address = u64::from(op.address) + u64::from(width - 1 - done);
-        let offers = offers(alloc, state, initial, address, mark)?;
+        let offers = offers(alloc, state, writing, initial, address, mark)?;
         parts = widened(alloc, parts.as_slice(), offers.as_slice())?;
     }
     new_values(alloc, parts.as_slice())

@@ -8,5 +8,6 @@ use Rattle.wm_explore.proofs.past.can_take_new.Given as goal
 
 abbrev pub invariant-loop-place : goal.invariant-loop-place
 invariant-loop-place l = record {
-  none : (i : ℕ) (w : EventKey) → i < l.place → l.count ≤ i → slice_get l.state.arrived i ≡ Some w → TakesNothing l.initial' l.state l.before l.next (At w);
+  none : (i place : ℕ) (w : EventKey) → i < l.place-index → slice_get l.writing i ≡ Some place → l.count ≤ place → slice_get l.state.arrived place ≡ Some w
+      → TakesNothing l.initial' l.state l.before l.next (At w);
 }

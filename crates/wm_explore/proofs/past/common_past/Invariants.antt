@@ -8,5 +8,6 @@ use Rattle.wm_explore.proofs.past.common_past.Given as goal
 abbrev pub invariant-loop-place : goal.invariant-loop-place
 invariant-loop-place l = record {
   init : FindsFor l.initial' l.state l.before l.next l.common Init;
-  some : (i : ℕ) (w : EventKey) → i < l.place → slice_get l.state.arrived i ≡ Some w → FindsFor l.initial' l.state l.before l.next l.common (At w);
+  some : (i place : ℕ) (w : EventKey) → i < l.place-index → slice_get l.writing i ≡ Some place → slice_get l.state.arrived place ≡ Some w
+      → FindsFor l.initial' l.state l.before l.next l.common (At w);
 }

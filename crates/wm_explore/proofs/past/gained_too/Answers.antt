@@ -1,17 +1,13 @@
-use Rattle.std.proofs.Common.{List, ℕ, Option, None, Some, inl, inr, refl, subst}
+use Rattle.std.proofs.Common.{ℕ, None, Some, inl, inr, refl, subst}
 use Rattle.std.specs.Prelude.{◌≡◌, ◌⊎◌, slice_get}
 use Rattle.wm_event.specs.declared.event.Event.{Event}
-use Rattle.wm_event.specs.declared.event.EventId.{EventId}
 use Rattle.wm_event.specs.declared.event.EventId.TheVariants.{At}
 use Rattle.wm_event.specs.declared.event.EventKey.{EventKey}
 use Rattle.wm_explore.specs.declared.past.Past.{Past}
 use Rattle.wm_explore.specs.declared.state.State.{State}
 use Rattle.wm_explore.specs.Past.{AreGained, AreGainedAt, CannotBegin, FindsFor, IsOnly}
+use Rattle.wm_explore.proofs.PastLaw.{cannot_for}
 use Rattle.wm_explore.proofs.past.gained_too.Goals as goal
-
-cannot_for : (initial : List ℕ) (s : State) (before : Past) (e : Event) (common : Option Past) (w : EventId) → CannotBegin initial s before e w → FindsFor initial s before e common w
-cannot_for initial s before e None w cannot = cannot
-cannot_for initial s before e (Some p) w cannot = inl cannot
 
 pub returns-then-not-can_begin-clause-here : goal.returns-then-not-can_begin-clause-here
 returns-then-not-can_begin-clause-here c = cannot_for c.args.initial.now c.args.state.now c.args.before.now c.args.next.now c.args.common _ (c.can_begin.ensures c.if-not-can_begin.true)
@@ -22,14 +18,14 @@ here s e place key at p (inr is) = record { clock = λ a counts. (place, key, re
 
 pub returns-in-None-clause-here : goal.returns-in-None-clause-here
 returns-in-None-clause-here c =
-    let gained = here c.args.state.now c.args.next.now c.args.place c.args.key c.requires c.gained-gained.result c.gained-gained.ensures in inr (record { clock = gained.clock; order = gained.order }, refl)
+    let gained = here c.args.state.now c.args.next.now c.args.place c.args.key c.requires.arrived c.gained-gained.result c.gained-gained.ensures in inr (record { clock = gained.clock; order = gained.order }, refl)
 
 pub returns-in-None-clause-kept : goal.returns-in-None-clause-kept
 returns-in-None-clause-kept c w finds = inl (subst (λ o. FindsFor c.args.initial.now c.args.state.now c.args.before.now c.args.next.now o w) c.in-None.is finds)
 
 pub returns-in-Some-clause-here : goal.returns-in-Some-clause-here
 returns-in-Some-clause-here c =
-    let gained = here c.args.state.now c.args.next.now c.args.place c.args.key c.requires c.gained-gained.result c.gained-gained.ensures in
+    let gained = here c.args.state.now c.args.next.now c.args.place c.args.key c.requires.arrived c.gained-gained.result c.gained-gained.ensures in
     inr (record { clock = λ a counts. gained.clock a (c.met.ensures a counts).1; order = λ a counts. gained.order a (c.met-in-Some.ensures a counts).1 }, tt)
 
 pub returns-in-Some-clause-kept : goal.returns-in-Some-clause-kept

@@ -7,5 +7,6 @@ use Rattle.wm_explore.proofs.past.has_source.Given as goal
 
 abbrev pub invariant-loop-place : goal.invariant-loop-place
 invariant-loop-place l = record {
-  none : (i : ℕ) (w : EventKey) → i < l.place → slice_get l.state.arrived i ≡ Some w → CannotGiveBeside l.initial' l.state l.before l.next l.first l.byte (At w);
+  none : (i place : ℕ) (w : EventKey) → i < l.place-index → slice_get l.writing i ≡ Some place → slice_get l.state.arrived place ≡ Some w
+      → CannotGiveBeside l.initial' l.state l.before l.next l.first l.byte (At w);
 }

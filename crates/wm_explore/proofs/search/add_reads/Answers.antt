@@ -2,8 +2,11 @@ use Rattle.std.proofs.Common.{◌≡◌, get_or, length, Some, refl, sym, ap, su
 use Rattle.std.specs.Prelude.{slice_get}
 use Rattle.std.proofs.lemmas.Option.{slice_get-get_or}
 use Rattle.wm_event.specs.Op.{event_made}
+use Rattle.wm_event.specs.declared.event.Event.{Event}
+use Rattle.wm_event.specs.declared.op.OpFields.{OpFields}
 use Rattle.wm_explore.specs.Search.{AddsRead}
 use Rattle.wm_explore.specs.Values.{ReadsAll}
+use Rattle.wm_explore.specs.Writing.{ListsWriting}
 use Rattle.wm_explore.proofs.Beginnings.{count_at}
 use Rattle.wm_explore.specs.Turns.{AreNexts, IsTurn}
 use Rattle.wm_explore.specs.declared.search.Progress.{Progress}
@@ -17,6 +20,13 @@ pub loop-value-init : goal.loop-value-init
 loop-value-init c = record {
   so_far = λ starts fine progress. read_none c.args.module.now starts c.args.limits.events c.args.state fine c.args.thread c.args.op c.args.progress.now c.as_slice-value-items.result.now progress;
 }
+
+pub add_read-requires-clause-writing : goal.add_read-requires-clause-writing
+add_read-requires-clause-writing c =
+    let s = c.args.state in
+    let op = subst (λ (o : OpFields). ListsWriting s o.address o.width c.in_ok-writing.writing) c.fields.ensures.value c.in_ok-writing.ensures in
+    let here = subst (ListsWriting s c.args.op.address c.args.op.width) (sym c.as_slice-writing.ensures) op in
+    subst (λ (e : Event). ListsWriting s e.address e.width c.as_slice-writing.result.now) (sym c.next_event-event.ensures.event) here
 
 pub loop-value-preserved : goal.loop-value-preserved
 loop-value-preserved c = record {
@@ -42,8 +52,8 @@ returns-in-Stuck c starts fine progress =
     let m = c.args.module.now in
     let s = c.args.state in
     let values = c.as_slice-value-items.result.now in
-    let all : ReadsAll s c.initial-initial.result.now c.args.op c.mark.result values =
-    subst (λ vs. ReadsAll s c.initial-initial.result.now c.args.op c.mark.result vs) (sym c.as_slice-value-items.ensures) (subst (λ op. ReadsAll s c.initial-initial.result.now op c.mark.result c.in_ok-values.values) c.fields.ensures.value c.in_ok-values.ensures) in
+    let all : ReadsAll s c.initial-initial.result.now c.args.op c.mark-mark.result values =
+    subst (λ vs. ReadsAll s c.initial-initial.result.now c.args.op c.mark-mark.result vs) (sym c.as_slice-value-items.ensures) (subst (λ op. ReadsAll s c.initial-initial.result.now op c.mark-mark.result c.in_ok-values.values) c.fields-2.ensures.value c.in_ok-values.ensures) in
     let q = c.loop-value.progress in
     let so = c.loop-value.invariant.so_far starts fine progress in
     let waiting = c.in_ok-waiting.waiting in
@@ -51,7 +61,7 @@ returns-in-Stuck c starts fine progress =
     let nexts = subst (λ log. AreNexts m log c.args.nexts.now) (sym is.log) c.requires.nexts in
     let stuck = subst (IsTurn m c.args.limits.events waiting) c.in-Stuck.is (c.turn_of.ensures m nexts) in
     reads_all m starts c.args.limits.events s fine c.args.thread c.args.op c.args.progress.now values q c.loop-value.value-index c.loop-value-test.false so c.requires.reads c.requires.next
-    c.initial-initial.result.now c.initial-initial.ensures c.mark.result c.mark.ensures all waiting is.log is.arrived is.marks q (same_more c.args.limits.events q) so.progress
+    c.initial-initial.result.now c.initial-initial.ensures c.mark-mark.result c.mark-mark.ensures all waiting is.log is.arrived is.marks q (same_more c.args.limits.events q) so.progress
     (waits m starts c.args.limits.events waiting (marked_is_state starts s waiting c.args.thread fine is.log is.arrived is.marks) q so.progress stuck).takes
 
 pub returns : goal.returns
@@ -59,8 +69,8 @@ returns c starts fine progress =
     let m = c.args.module.now in
     let s = c.args.state in
     let values = c.as_slice-value-items.result.now in
-    let all : ReadsAll s c.initial-initial.result.now c.args.op c.mark.result values =
-    subst (λ vs. ReadsAll s c.initial-initial.result.now c.args.op c.mark.result vs) (sym c.as_slice-value-items.ensures) (subst (λ op. ReadsAll s c.initial-initial.result.now op c.mark.result c.in_ok-values.values) c.fields.ensures.value c.in_ok-values.ensures) in
+    let all : ReadsAll s c.initial-initial.result.now c.args.op c.mark-mark.result values =
+    subst (λ vs. ReadsAll s c.initial-initial.result.now c.args.op c.mark-mark.result vs) (sym c.as_slice-value-items.ensures) (subst (λ op. ReadsAll s c.initial-initial.result.now op c.mark-mark.result c.in_ok-values.values) c.fields-2.ensures.value c.in_ok-values.ensures) in
     let q = c.loop-value.progress in
     let so = c.loop-value.invariant.so_far starts fine progress in
     let waiting = c.in_ok-waiting.waiting in
@@ -68,6 +78,6 @@ returns c starts fine progress =
     let next : Progress = record { work = c.push.new.self; finished = q.finished; met = q.met } in
     let pushed = c.in_ok-push-in_default.ensures.items in
     reads_all m starts c.args.limits.events s fine c.args.thread c.args.op c.args.progress.now values q c.loop-value.value-index c.loop-value-test.false so c.requires.reads c.requires.next
-    c.initial-initial.result.now c.initial-initial.ensures c.mark.result c.mark.ensures all waiting is.log is.arrived is.marks next (pushed_more m starts c.args.limits.events q next refl refl waiting pushed)
+    c.initial-initial.result.now c.initial-initial.ensures c.mark-mark.result c.mark-mark.ensures all waiting is.log is.arrived is.marks next (pushed_more m starts c.args.limits.events q next refl refl waiting pushed)
     (pushed_progress m starts c.args.limits.events q next refl refl waiting pushed so.progress (marked_is_state starts s waiting c.args.thread fine is.log is.arrived is.marks)
     (marked_noted m s waiting c.requires.noted is.log is.arrived is.pasts (is.known m c.requires.nexts))) (λ x _ _ on. pushed_left m starts c.args.limits.events q next refl refl waiting pushed x on)

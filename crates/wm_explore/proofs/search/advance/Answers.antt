@@ -3,10 +3,14 @@ use Rattle.wm_explore.specs.Turns.{AreNexts}
 use Rattle.wm_explore.specs.declared.search.Progress.{Progress}
 use Rattle.wm_explore.proofs.Beside.{advances_dropped, advances_extended, advances_none, advances_same}
 use Rattle.wm_explore.proofs.Exploring.{rest_progress, starts_length, taken_is_state, taken_noted}
+use Rattle.wm_explore.proofs.Moving.{idle_turn}
 use Rattle.wm_explore.proofs.search.advance.Goals as goal
 
 pub loop-graphs-init : goal.loop-graphs-init
-loop-graphs-init c = record { so_far = advances_none c.args.module.now c.args.starts.now c.args.limits.events c.args.progress.now c.requires.progress }
+loop-graphs-init c = record {
+  so_far = advances_none c.args.module.now c.args.starts.now c.args.limits.events c.args.progress.now c.requires.progress;
+  recalls = c.in_ok-cache.ensures c.args.module.now c.args.starts.now;
+}
 
 pub extend-requires : goal.extend-requires
 extend-requires c =
@@ -20,7 +24,7 @@ extend-requires c =
           let few = c.requires.few in
           omega (arith, count, few);
       noted = taken_noted c.args.module.now c.args.starts.now c.args.limits.events p before s rest c.in-Some.ensures.items refl refl;
-      nexts = subst (AreNexts c.args.module.now s.log) (sym c.as_slice-nexts.ensures) c.in_ok-nexts-in-Some.ensures;
+      nexts = subst (AreNexts c.args.module.now s.log) (sym c.as_slice.ensures) c.in_ok-nexts-in-Some.ensures;
     }
 
 pub nexts-requires-clause-known : goal.nexts-requires-clause-known
@@ -28,6 +32,13 @@ nexts-requires-clause-known c =
     let p = c.loop-graphs.progress in
     (taken_noted c.args.module.now c.args.starts.now c.args.limits.events p c.loop-graphs.invariant.so_far.progress c.in-Some.state
     (record { work = c.pop.new.self; finished = p.finished; met = p.met }) c.in-Some.ensures.items refl refl).nexts
+
+pub nexts-requires-clause-moved : goal.nexts-requires-clause-moved
+nexts-requires-clause-moved c =
+    let p = c.loop-graphs.progress in
+    let fine = taken_is_state c.args.module.now c.args.starts.now c.args.limits.events p c.loop-graphs.invariant.so_far.progress c.in-Some.state
+    (record { work = c.pop.new.self; finished = p.finished; met = p.met }) c.in-Some.ensures.items refl refl in
+    c.in_ok-moved-in-Some.ensures.moved c.args.starts.now fine.started c.loop-graphs.invariant.recalls
 
 pub loop-graphs-preserved : goal.loop-graphs-preserved
 loop-graphs-preserved c =
@@ -40,13 +51,26 @@ loop-graphs-preserved c =
     let so_far = c.loop-graphs.invariant.so_far in
     let fine = taken_is_state m starts events p so_far.progress s q c.in-Some.ensures.items refl refl in
     let step = c.in_ok-extend-in-Some.ensures starts fine (rest_progress m starts events p so_far.progress s q c.in-Some.ensures.items refl refl) in
-    record { so_far = advances_extended m starts events c.args.progress.now p so_far s q c.in-Some.ensures.items refl refl c.extend.new.progress step }
+    record {
+      so_far = advances_extended m starts events c.args.progress.now p so_far s q c.in-Some.ensures.items refl refl c.extend.new.progress step;
+      recalls = c.in_ok-moved-in-Some.ensures.recalls starts fine.started c.loop-graphs.invariant.recalls;
+    }
 
-pub loop-graphs-preserved-then-branch : goal.loop-graphs-preserved-then-branch
-loop-graphs-preserved-then-branch c =
+pub loop-graphs-preserved-then-is_idle : goal.loop-graphs-preserved-then-is_idle
+loop-graphs-preserved-then-is_idle c =
+    let m = c.args.module.now in
+    let starts = c.args.starts.now in
+    let events = c.args.limits.events in
     let p = c.loop-graphs.progress in
     let q : Progress = record { work = c.pop.new.self; finished = p.finished; met = p.met } in
-    record { so_far = advances_dropped c.args.module.now c.args.starts.now c.args.limits.events c.args.progress.now p c.loop-graphs.invariant.so_far c.in-Some.state q c.in-Some.ensures.items refl refl (c.in_ok-ends_idly-in-Some.ensures c.if-branch.true) }
+    let s = c.in-Some.state in
+    let so_far = c.loop-graphs.invariant.so_far in
+    let fine = taken_is_state m starts events p so_far.progress s q c.in-Some.ensures.items refl refl in
+    let found = c.in_ok-moved-in-Some.ensures.moved starts fine.started c.loop-graphs.invariant.recalls in
+    record {
+      so_far = advances_dropped m starts events c.args.progress.now p so_far s q c.in-Some.ensures.items refl refl (idle_turn m s c.in_ok-moved-in-Some.moved found (c.is_idle.ensures c.if-is_idle.true));
+      recalls = c.in_ok-moved-in-Some.ensures.recalls starts fine.started c.loop-graphs.invariant.recalls;
+    }
 
 pub returns-in-None : goal.returns-in-None
 returns-in-None c =

@@ -3,7 +3,7 @@ use Rattle.std.specs.Prelude.{slice_get}
 use Rattle.std.proofs.lemmas.Option.{get_or_from_slice_get}
 use Rattle.wm_event.specs.declared.event.Event.{Event}
 use Rattle.wm_event.specs.Log.{event_in}
-use Rattle.wm_explore.specs.Turns.{WritesNone}
+use Rattle.wm_explore.specs.Writing.{WritesNone}
 use Rattle.wm_explore.proofs.Items.{all_below, one_more_any}
 use Rattle.wm_explore.proofs.turn.has_new.Goals as goal
 

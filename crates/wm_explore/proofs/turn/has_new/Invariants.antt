@@ -3,7 +3,7 @@ use Rattle.std.specs.Prelude.{slice_get}
 use Rattle.wm_event.specs.declared.event.Event.{Event}
 use Rattle.wm_event.specs.declared.event.EventKey.{EventKey}
 use Rattle.wm_event.specs.Log.{event_in}
-use Rattle.wm_explore.specs.Turns.{WritesNone}
+use Rattle.wm_explore.specs.Writing.{WritesNone}
 use Rattle.wm_explore.proofs.turn.has_new.Given as goal
 
 abbrev pub invariant-loop-place : goal.invariant-loop-place

@@ -1,0 +1,106 @@
+//! What threads were seen to do after some events, so that they need not be run again.
+ghost use Rattle.std.specs.Prelude.{◌≡◌, ◌↔◌, List, Some, true, IfOk, IfSome, IsTrue, OnOk, slice_get};
+ghost use Rattle.wm_ast.specs.declared.module.Module.{Module};
+ghost use Rattle.wm_event.specs.declared.log.Start.{Start};
+ghost use Rattle.wm_explore.specs.Cache.{Recalls};
+ghost use Rattle.wm_explore.specs.Moved.{IsMovedBy};
+
+use crate::moved::Moved;
+use std::alloc::{AllocError, Global};
+use wm_event::{Event, ThreadLog};
+use wm_list::List;
+
+/// How many threads are kept at once, by the highest byte of a hash.
+const PLACES: usize = 256;
+
+/// What a thread does after some events.
+#[derive(Drop)]
+struct Entry {
+    events: List<Event>,
+    moved: Moved,
+}
+
+/// What threads were seen to do after some events. An entry gives way to a later one with the same place.
+#[derive(Drop)]
+pub(crate) struct Cache {
+    entries: Vec<Option<Entry>>,
+}
+
+/// Whether these are the same events, in the same order.
+fn same_events(events: &[Event], others: &[Event]) -> bool
+    ensures { result ≡ true → events.now ≡ others.now }
+{
+    if events.len() != others.len() {
+        return false;
+    }
+    for (index, event) in events.iter().enumerate() {
+        if *event != others[index] {
+            return false;
+        }
+    }
+    true
+}
+
+/// The place of a thread with these events: the highest byte of a hash of what they read.
+fn place_of(number: usize, events: &[Event]) -> usize {
+    let mut hash = number as u64;
+    for event in events {
+        // The multiplier is odd, and 2^64 divided by the golden ratio.
+        hash = (hash ^ event.read)
+            .wrapping_add(1)
+            .wrapping_mul(0x9e37_79b9_7f4a_7c15);
+    }
+    (hash >> 56) as usize
+}
+
+impl Cache {
+    /// Nothing was seen.
+    pub(crate) fn new(alloc: Global) -> Result<Self, AllocError>
+        ensures { IfOk result (λ cache. (m : Module) (starts : List Start) → Recalls m starts cache) }
+    {
+        let mut entries = Vec::with_capacity(alloc, PLACES)?;
+        for _ in 0..PLACES {
+            entries.push(None)?;
+        }
+        Ok(Cache { entries })
+    }
+
+    /// What a thread does that has made the events of its log, if that was kept.
+    pub(crate) fn find(&self, number: usize, stated: &ThreadLog) -> Option<Moved>
+        ensures { (m : Module) (starts : List Start) → Recalls m starts self.now →
+            slice_get starts number ≡ Some stated.now.start → IfSome result (IsMovedBy m number stated.now) }
+    {
+        let events = stated.events.as_slice();
+        let Some(Some(entry)) = self.entries.get(place_of(number, events)) else {
+            return None;
+        };
+        if entry.moved.number != number {
+            return None;
+        }
+        if !same_events(entry.events.as_slice(), events) {
+            return None;
+        }
+        Some(entry.moved)
+    }
+
+    /// Keeps what a thread does that has made the events of its log.
+    pub(crate) fn keep(
+        &mut self,
+        alloc: Global,
+        stated: &ThreadLog,
+        moved: &Moved,
+    ) -> Result<(), AllocError>
+        ensures { OnOk result ((m : Module) (starts : List Start) → Recalls m starts self.old →
+            slice_get starts moved.now.number ≡ Some stated.now.start → IsMovedBy m moved.now.number stated.now moved.now → Recalls m starts self.new) }
+    {
+        let events = stated.events.as_slice();
+        let copy = List::from_vec(events.to_vec(alloc)?);
+        if let Some(slot) = self.entries.get_mut(place_of(moved.number, events)) {
+            *slot = Some(Entry {
+                events: copy,
+                moved: *moved,
+            });
+        }
+        Ok(())
+    }
+}
