@@ -10,8 +10,11 @@ use std::alloc::{AllocError, Global};
 use wm_event::{Event, ThreadLog};
 use wm_list::List;
 
-/// How many threads are kept at once, by the highest byte of a hash.
-const PLACES: usize = 256;
+/// How many bits of a hash give the place of an entry.
+const PLACE_BITS: u32 = 10;
+
+/// How many entries are kept at once.
+const PLACES: usize = 1 << PLACE_BITS;
 
 /// What a thread does after some events.
 #[derive(Drop)]
@@ -41,7 +44,7 @@ fn same_events(events: &[Event], others: &[Event]) -> bool
     true
 }
 
-/// The place of a thread with these events: the highest byte of a hash of what they read.
+/// The place of a thread with these events: the highest bits of a hash of what they read.
 fn place_of(number: usize, events: &[Event]) -> usize {
     let mut hash = number as u64;
     for event in events {
@@ -50,7 +53,7 @@ fn place_of(number: usize, events: &[Event]) -> usize {
             .wrapping_add(1)
             .wrapping_mul(0x9e37_79b9_7f4a_7c15);
     }
-    (hash >> 56) as usize
+    (hash >> (64 - PLACE_BITS)) as usize
 }
 
 impl Cache {

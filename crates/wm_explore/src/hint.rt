@@ -284,15 +284,14 @@ fn updating_fit(order: &[Happened], before: &Clock, event: Event) -> Fit {
 /// before it. An update takes them from the last one, if it can. Some events are to come later.
 fn reading_fit(order: &[Happened], later: &[Happened], initial: &Initial, event: Event) -> Fit {
     let before = next_clock(order, event.key());
+    if event.writes()
+        && let Fit::At(spot) = updating_fit(order, &before, event)
+    {
+        return Fit::At(spot);
+    }
     let mut fit = Fit::Nowhere;
-    if event.writes() {
-        fit = updating_fit(order, &before, event);
-    }
-    if let Fit::At(_) = fit {
-        return fit;
-    }
     if begins_with(initial, &event) {
-        fit = fit.or(Taking::of(event, Source::Init, &before).fit(order));
+        fit = Taking::of(event, Source::Init, &before).fit(order);
     }
     for (place, writer) in order.iter().enumerate() {
         if let Fit::At(_) = fit {
