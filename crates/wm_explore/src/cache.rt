@@ -1,5 +1,5 @@
 //! What threads were seen to do after some events, so that they need not be run again.
-ghost use Rattle.std.specs.Prelude.{◌≡◌, ◌↔◌, List, Some, true, IfOk, IfSome, IsTrue, OnOk, slice_get};
+ghost use Rattle.std.specs.Prelude.{◌≡◌, List, Some, true, IfOk, IfSome, OnOk, slice_get};
 ghost use Rattle.wm_ast.specs.declared.module.Module.{Module};
 ghost use Rattle.wm_event.specs.declared.log.Start.{Start};
 ghost use Rattle.wm_explore.specs.Cache.{Recalls};
@@ -94,7 +94,8 @@ impl Cache {
         moved: &Moved,
     ) -> Result<(), AllocError>
         ensures { OnOk result ((m : Module) (starts : List Start) → Recalls m starts self.old →
-            slice_get starts moved.now.number ≡ Some stated.now.start → IsMovedBy m moved.now.number stated.now moved.now → Recalls m starts self.new) }
+            slice_get starts moved.now.number ≡ Some stated.now.start →
+            IsMovedBy m moved.now.number stated.now moved.now → Recalls m starts self.new) }
     {
         let events = stated.events.as_slice();
         let copy = List::from_vec(events.to_vec(alloc)?);
