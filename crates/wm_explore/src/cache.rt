@@ -16,6 +16,9 @@ const PLACE_BITS: u32 = 10;
 /// How many entries are kept at once.
 const PLACES: usize = 1 << PLACE_BITS;
 
+/// The most events of an entry: a thread with more of them is run again, which takes less memory.
+const MOST_EVENTS: usize = 256;
+
 /// What a thread does after some events.
 #[derive(Drop)]
 struct Entry {
@@ -86,7 +89,7 @@ impl Cache {
         Some(entry.moved)
     }
 
-    /// Keeps what a thread does that has made the events of its log.
+    /// Keeps what a thread does that has made the events of its log, if there are at most [`MOST_EVENTS`].
     pub(crate) fn keep(
         &mut self,
         alloc: Global,
@@ -98,6 +101,9 @@ impl Cache {
             IsMovedBy m moved.now.number stated.now moved.now → Recalls m starts self.new) }
     {
         let events = stated.events.as_slice();
+        if events.len() > MOST_EVENTS {
+            return Ok(());
+        }
         let copy = List::from_vec(events.to_vec(alloc)?);
         if let Some(slot) = self.entries.get_mut(place_of(moved.number, events)) {
             *slot = Some(Entry {
