@@ -4,7 +4,8 @@ ghost use Rattle.wm_event.specs.declared.event.EventKey.{EventKey};
 
 use wm_event::{EventKey, MAX_THREADS};
 
-/// How many events of each thread come before an event or are it: the first ones of the thread.
+/// How many events of each thread come before an event or are it: the first ones of the thread. An event of a higher number
+/// than an exploration has is not counted.
 #[derive(Clone, Copy)]
 pub(crate) struct Clock {
     pub per_thread: [u16; MAX_THREADS],

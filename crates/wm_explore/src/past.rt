@@ -1,4 +1,5 @@
-//! What surely holds of an event that is added to a state, whichever events wrote the bytes that were read.
+//! What surely holds of an event that is added to a state, whichever events wrote the bytes that were read. `writing` are
+//! everywhere the places of the events that write a byte of what the next event reads.
 ghost use Rattle.std.specs.Prelude.{◌≡◌, ◌↔◌, ◌+◌, ◌<◌, ℕ, List, Some, true, false, IfSome, IsTrue, slice_get};
 ghost use Rattle.wm_event.specs.Event.{key_of};
 ghost use Rattle.wm_event.specs.Rules.{IsTearFree};
