@@ -1,5 +1,5 @@
 -- A state in which each thread has ended, and its completion.
-use Rattle.std.proofs.Common.{◌≡◌, ℕ, ◌<◌, ◌≤◌, List, length, inl, inr, Some, sym, ap, ◌∙◌, arith}
+use Rattle.std.proofs.Common.{◌≡◌, ℕ, ◌<◌, ◌≤◌, List, length, inl, inr, Some, sym, ap, subst, ◌∙◌, arith}
 use Rattle.std.specs.Prelude.{◌⊎◌, slice_get}
 use Rattle.std.proofs.lemmas.Bool.{cases_order}
 use Rattle.std.proofs.lemmas.Option.{same_Some, slice_get_within}
@@ -9,14 +9,15 @@ use Rattle.wm_event.specs.declared.log.ThreadLog.{ThreadLog}
 use Rattle.wm_event.specs.LoggedRun.{LoggedRun}
 use Rattle.wm_machine.specs.Run.{Outcome, run}
 use Rattle.wm_replay.specs.Complete.{IsCompletion, IsLongestRun, IsWithoutRun, MakesEvents}
-use Rattle.wm_replay.specs.Continuing.{IsEndedRun}
+use Rattle.wm_replay.specs.Continuing.{GoesOn as RunGoesOn, IsEndedRun}
 use Rattle.wm_replay.specs.Replay.{reads_of}
+use Rattle.wm_replay.specs.declared.continuing.Next.{Next}
 use Rattle.wm_replay.specs.declared.answer.ReplayAnswer.{ReplayAnswer}
 use Rattle.wm_replay.specs.declared.answer.ReplayAnswer.TheVariants.{Same, StartRefused, Differs}
 use Rattle.wm_replay.proofs.Continuations.{no_longer}
 use Rattle.wm_explore.specs.Executions.{IsExecutionOf, IsFinished, ends_of}
 use Rattle.wm_explore.specs.States.{GoesOn}
-use Rattle.wm_explore.specs.Turns.{EachEndsIn}
+use Rattle.wm_explore.specs.Turns.{AreNexts, EachEndsIn, EndSo}
 use Rattle.wm_explore.specs.declared.state.State.{State}
 use Rattle.wm_explore.proofs.Alike.{each_alike, events_of}
 use Rattle.wm_explore.proofs.Beginnings.{ended_run, first_thread, whole_thread}
@@ -53,7 +54,20 @@ same_end m k t u c is same within longest = by (cases_order c.steps u.steps)
 module _ (m : Module) (starts : List Start) (x : LoggedRun) (s : State) (is : IsExecutionOf m starts x) (on : GoesOn x s) (ends : EachEndsIn m s.log) where
   -- the threads of the execution have no further events
   whole : (k : ℕ) (t u : ThreadLog) → slice_get s.log k ≡ Some t → slice_get x.log k ≡ Some u → (u.events ≡ t.events) × (u.steps ≤ 1000000)
-  whole k t u at_t at_u = ends k t at_t u (ended_run m starts x s.log is on.beginning k t u at_t at_u)
+  whole k t u at_t at_u =
+      let so = (ends k t at_t).1 u (ended_run m starts x s.log is on.beginning k t u at_t at_u) in
+      (so.0, so.1)
+
+  -- the threads of a log that end as these threads do next end as the execution does
+  pub ends_so : (nexts : List Next) → AreNexts m s.log nexts → (log : List ThreadLog) → EndSo log nexts → ends_of log ≡ ends_of x.log
+  ends_so nexts are log so = same_ends log x.log (length log) counts (omega arith) (λ k t u lt at_t at_u.
+      let first = first_thread s.log x.log on.beginning k u at_u in
+      let next = item_within nexts k (let same = so.count in omega (arith, lt, same)) in
+      let runs = are.each k first.0 next.0 first.1 next.1 u (ended_run m starts x s.log is on.beginning k first.0 u first.1 at_u) in
+      sym (subst (λ n. RunGoesOn k first.0 u n) (so.each k t next.0 at_t next.1) runs).2)
+    where
+      counts : length log ≡ length x.log
+      counts = so.count ∙ are.count ∙ on.beginning.count
 
   module _ (completed : List ThreadLog) (completion : IsCompletion m s.log completed) where
     counts : length completed ≡ length x.log

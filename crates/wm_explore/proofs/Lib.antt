@@ -27,6 +27,7 @@ pub mod ReadsOf
 pub mod Extending
 pub mod Idling
 pub mod Moving
+pub mod Recalling
 pub mod ShorterRuns
 pub mod Replacing
 pub mod Shortening

@@ -30,7 +30,7 @@ start_at (u ∷ log) (suc k) t is = start_at log k t is
 
 module _ (m : Module) (k : ℕ) (t u : ThreadLog) (starts : u.start ≡ t.start) (events : u.events ≡ t.events) where
   goes_same : (v : ThreadLog) (next : Next) → GoesOn k t v next → GoesOn k u v next
-  goes_same v Ends on = (on.0 ∙ sym events, on.1)
+  goes_same v (Ends end) on = (on.0 ∙ sym events, on.1, on.2)
   goes_same v (Access op) on =
       subst (λ es. (r : ℕ) × Fits op.width r × (slice_get v.events (length es) ≡ Some (event_made (record { thread = k; number = length es }) op r))) (sym events) on
   goes_same v Unknown on = on

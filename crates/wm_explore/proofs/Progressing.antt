@@ -11,19 +11,20 @@ use Rattle.wm_event.specs.Rules.{IsValid}
 use Rattle.wm_event.specs.Shape.{IsWellShaped}
 use Rattle.wm_replay.specs.Complete.{IsCompletion, IsWithoutRun}
 use Rattle.wm_replay.specs.declared.answer.ReplayAnswer.{ReplayAnswer}
+use Rattle.wm_replay.specs.declared.continuing.Next.{Next}
 use Rattle.wm_explore.specs.Bounds.{IsExcused}
 use Rattle.wm_explore.specs.Executions.{IsCausal, IsExecutionOf, IsFinished, ends_of, starts_of}
 use Rattle.wm_explore.specs.Judging.{IsAllowedWith, LooksBack, run_with}
-use Rattle.wm_explore.specs.Search.{AreApart, Covers, Extends, IsFound, IsProgress, Lists, Takes}
+use Rattle.wm_explore.specs.Search.{AreApart, Covers, EndsFound, Extends, IsFound, IsProgress, Lists, Takes}
 use Rattle.wm_explore.specs.Search.Covers.{left, listed, excused}
 use Rattle.wm_explore.specs.Known.{IsNoted}
 use Rattle.wm_explore.specs.States.{GoesOn, IsState}
-use Rattle.wm_explore.specs.Turns.{EachEndsIn}
+use Rattle.wm_explore.specs.Turns.{AreNexts, EachEndsIn}
 use Rattle.wm_explore.specs.declared.exploration.Finished.{Finished}
 use Rattle.wm_explore.specs.declared.search.Progress.{Progress}
 use Rattle.wm_explore.specs.declared.state.State.{State}
 use Rattle.wm_explore.proofs.Alike.{allowed_too, each_alike, events_of, holds_too, same_events}
-use Rattle.wm_explore.proofs.Finishing.{completed_finished, has_run, same_ends_too, same_events_too}
+use Rattle.wm_explore.proofs.Finishing.{completed_finished, ends_so, has_run, same_ends_too, same_events_too}
 use Rattle.wm_explore.proofs.Lists.{at_pushed, kept_pushed, last_pushed}
 use Rattle.wm_explore.proofs.Timing.{is_causal}
 use Rattle.wm_valid.proofs.Initial.{one_init}
@@ -68,6 +69,10 @@ module _ (m : Module) (starts : List Start) (events : ℕ) (s : State) where
   module _ (fine : IsState starts s) (p : Progress) (progress : IsProgress m starts p) (ends : EachEndsIn m s.log) where
     pub without_run : (answer : ReplayAnswer) → IsWithoutRun m s.log answer → Extends m starts events s p p
     without_run answer none = extends p p progress (same_more events p) (λ x is causal on. absurd (has_run m starts x s is on ends answer none))
+
+    -- an execution with the ends of these threads was found
+    pub found_so : (nexts : List Next) → AreNexts m s.log nexts → EndsFound p.finished.items nexts → Extends m starts events s p p
+    found_so nexts are (i, f, at, so) = extends p p progress (same_more events p) (λ x is causal on. listed (i, f, at, ends_so m starts x s is on ends nexts are f.log so))
 
     module _ (completed : List ThreadLog) (completion : IsCompletion m s.log completed) where
       pub unfinished : (IsFinished completed → ⊥) → Extends m starts events s p p

@@ -4,13 +4,14 @@ use Rattle.std.specs.Prelude.{◌≢◌, ◌⊎◌, option_and_then, slice_get, 
 use Rattle.std.proofs.lemmas.Bool.{ltb-false, ltb-true}
 use Rattle.std.proofs.lemmas.Option.{none-some, same_Some, slice_get_within}
 use Rattle.wm_ast.specs.declared.module.Module.{Module}
+use Rattle.wm_event.specs.declared.log.End.{End}
 use Rattle.wm_event.specs.declared.log.ThreadLog.{ThreadLog}
 use Rattle.wm_event.specs.declared.op.OpFields.{OpFields}
 use Rattle.wm_explore.specs.declared.bound.Bound.{Bound}
 use Rattle.wm_explore.specs.declared.bound.Bound.TheVariants.{Steps, Events}
 use Rattle.wm_explore.specs.declared.state.State.{State}
 use Rattle.wm_explore.specs.declared.turn.Turn.{Turn}
-use Rattle.wm_explore.specs.Turns.{AreNexts, EachEnds, EachEndsIn, FindsBound, FindsRead, FindsWrite, IsAtBound, IsStuck, IsTurn, IsWaiting, MakesNext, OfThread, at_events, bound_at}
+use Rattle.wm_explore.specs.Turns.{AreNexts, EachEnds, EachEndsIn, EndsIn, FindsBound, FindsRead, FindsWrite, IsAtBound, IsStuck, IsTurn, IsWaiting, MakesNext, OfThread, at_events, bound_at}
 use Rattle.wm_replay.specs.Continuing.{ContinuesSo}
 use Rattle.wm_replay.specs.declared.continuing.Next.{Next}
 use Rattle.wm_replay.specs.declared.continuing.Next.TheVariants.{Ends, Access, Unknown}
@@ -47,7 +48,7 @@ module _ (m : Module) (log : List ThreadLog) (nexts : List Next) (are : AreNexts
   bounded events bound (k, next, is, at) = by next is at
     where
       by : (next : Next) → slice_get nexts k ≡ Some next → bound_at log k next events ≡ Some bound → IsAtBound m events log × OfThread bound
-      by Ends is at = absurd (none-some bound at)
+      by (Ends end) is at = absurd (none-some bound at)
       by Unknown is at =
           let t = thread_of k Unknown is in (
             record { number = k; thread = t.0; is_thread = t.1; at = inl (are.each k t.0 Unknown t.1 is) },
@@ -71,18 +72,20 @@ module _ (m : Module) (log : List ThreadLog) (nexts : List Next) (are : AreNexts
 
   pub each_ends_in : EachEnds nexts true → EachEndsIn m log
   each_ends_in ends k t is =
-      let next = next_of k t is in subst (λ n. ContinuesSo m k t n) (ends k next.0 next.1) (are.each k t next.0 is next.1)
+      let next = next_of k t is in
+      let end = ends k next.0 next.1 in
+      (end.0, subst (λ n. ContinuesSo m k t n) end.1 (are.each k t next.0 is next.1))
 
   module _ (s : State) (same : s.log ≡ log) (events : ℕ) (no_bound : FindsBound log nexts events None) (no_write : FindsWrite nexts None) (no_read : FindsRead s nexts None) where
-    waits : (k : ℕ) (t : ThreadLog) (next : Next) → slice_get log k ≡ Some t → slice_get nexts k ≡ Some next → next ≢ Ends → IsWaiting m s k t
-    waits k t Ends at is not = absurd (not refl)
+    waits : (k : ℕ) (t : ThreadLog) (next : Next) → slice_get log k ≡ Some t → slice_get nexts k ≡ Some next → ((end : End) → next ≢ Ends end) → IsWaiting m s k t
+    waits k t (Ends end) at is not = absurd (not end refl)
     waits k t Unknown at is not = absurd (none-some (Steps k) (sym (no_bound k Unknown is)))
     waits k t (Access op) at is not = (op, are.each k t (Access op) at is, no_read k op is (no_write k op is))
 
-    ends_or_waits : (k : ℕ) (t : ThreadLog) (next : Next) → slice_get log k ≡ Some t → slice_get nexts k ≡ Some next → ContinuesSo m k t Ends ⊎ IsWaiting m s k t
-    ends_or_waits k t Ends at is = inl (are.each k t Ends at is)
-    ends_or_waits k t Unknown at is = inr (waits k t Unknown at is (λ e. cc e))
-    ends_or_waits k t (Access op) at is = inr (waits k t (Access op) at is (λ e. cc e))
+    ends_or_waits : (k : ℕ) (t : ThreadLog) (next : Next) → slice_get log k ≡ Some t → slice_get nexts k ≡ Some next → EndsIn m k t ⊎ IsWaiting m s k t
+    ends_or_waits k t (Ends end) at is = inl (end, are.each k t (Ends end) at is)
+    ends_or_waits k t Unknown at is = inr (waits k t Unknown at is (λ end e. cc e))
+    ends_or_waits k t (Access op) at is = inr (waits k t (Access op) at is (λ end e. cc e))
 
     pub stuck : EachEnds nexts false → IsStuck m s
     stuck (k, next, is, not) =

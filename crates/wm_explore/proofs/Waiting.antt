@@ -19,12 +19,11 @@ use Rattle.wm_event.specs.Log.{event_in}
 use Rattle.wm_event.specs.Op.{event_made}
 use Rattle.wm_event.specs.Shape.{read_width}
 use Rattle.wm_event.specs.LoggedRun.{LoggedRun, execution}
-use Rattle.wm_replay.specs.Continuing.{ContinuesSo, HasNextBy}
-use Rattle.wm_replay.specs.declared.continuing.Next.TheVariants.{Ends}
+use Rattle.wm_replay.specs.Continuing.{HasNextBy}
 use Rattle.wm_part.specs.Cut.{is_kept}
 use Rattle.wm_explore.specs.Executions.{HasTimes, IsExecutionOf}
 use Rattle.wm_explore.specs.States.{GoesOn, HasArrived, IsState, count_in}
-use Rattle.wm_explore.specs.Turns.{IsStuck, IsWaiting}
+use Rattle.wm_explore.specs.Turns.{EndsIn, IsStuck, IsWaiting}
 use Rattle.wm_explore.specs.declared.state.State.{State}
 use Rattle.wm_explore.proofs.Beginnings.{count_at, ended_run, event_at, first_thread, item_there, kept_there, same_event, some_of, thread_of_event, whole_thread}
 use Rattle.wm_explore.proofs.Readings.{byte_left_by, byte_within, writer_there}
@@ -118,9 +117,9 @@ module _ (m : Module) (starts : List Start) (x : LoggedRun) (s : State) (is : Is
         let t = first_thread s.log x.log on.beginning k u.0 u.1 in
         by (λ j. no_next fuel j) t.0 u.0 t.1 u.1 e.0 e.1 (stuck.each k t.0 t.1)
       where
-        by : ((j : ℕ) → time (next j) < fuel → IsSome (event_in x.log (next j)) → ⊥) → (t u : ThreadLog) → slice_get s.log k ≡ Some t → slice_get x.log k ≡ Some u → (e : Event) → event_in x.log (next k) ≡ Some e → ContinuesSo m k t Ends ⊎ IsWaiting m s k t → ⊥
+        by : ((j : ℕ) → time (next j) < fuel → IsSome (event_in x.log (next j)) → ⊥) → (t u : ThreadLog) → slice_get s.log k ≡ Some t → slice_get x.log k ≡ Some u → (e : Event) → event_in x.log (next k) ≡ Some e → EndsIn m k t ⊎ IsWaiting m s k t → ⊥
         by none t u at_t at_u e is_e (inl ends) =
-            let same = (ends u (ended_run m starts x s.log is on.beginning k t u at_t at_u)).0 in
+            let same = (ends.1 u (ended_run m starts x s.log is on.beginning k t u at_t at_u)).0 in
             let lt = slice_get_within u.events (count_in s.log k) e (sym (event_at x.log (next k) u at_u) ∙ is_e) in
             let count : length u.events ≡ count_in s.log k = ap length same ∙ sym (count_at s.log k t at_t) in
             omega (arith, lt, count)

@@ -20,6 +20,7 @@ use Rattle.wm_explore.specs.Past.{FindsPast, KnowsPast}
 use Rattle.wm_event.specs.declared.event.Event.{Event}
 use Rattle.wm_replay.specs.declared.continuing.Next.{Next}
 use Rattle.wm_explore.specs.States.{GoesOn, IsAlike, IsState}
+use Rattle.wm_explore.specs.Turns.{EndSo}
 use Rattle.wm_valid.specs.Valid.{IsInit}
 
 -- ---- what was found
@@ -27,6 +28,10 @@ use Rattle.wm_valid.specs.Valid.{IsInit}
 -- some execution that was found has these ends
 abbrev pub Lists : List Finished → List End → Type 0
 Lists finished ends = (i : ℕ) × (f : Finished) × (slice_get finished i ≡ Some f) × (ends_of f.log ≡ ends)
+
+-- some execution that was found ends as these threads do next
+abbrev pub EndsFound : List Finished → List Next → Type 0
+EndsFound finished nexts = (i : ℕ) × (f : Finished) × (slice_get finished i ≡ Some f) × EndSo f.log nexts
 
 -- over the initial memory of the module it is a valid and causal execution of it in which each thread has ended
 abbrev pub IsFound : Module → List Start → Finished → Type 0

@@ -5,6 +5,7 @@ use Rattle.wm_event.specs.Log.{event_in}
 use Rattle.wm_event.specs.Op.{kind_finds}
 use Rattle.wm_event.specs.declared.event.Event.{Event}
 use Rattle.wm_event.specs.declared.event.EventKey.{EventKey}
+use Rattle.wm_event.specs.declared.log.End.{End}
 use Rattle.wm_event.specs.declared.log.ThreadLog.{ThreadLog}
 use Rattle.wm_event.specs.declared.op.OpFields.{OpFields}
 use Rattle.wm_explore.specs.declared.bound.Bound.{Bound}
@@ -29,7 +30,7 @@ abbrev pub at_events : ℕ → ℕ → ThreadLog → Option Bound
 at_events k events t = if nat_lt (length t.events) events then None else Some (Events k)
 
 abbrev pub bound_at : List ThreadLog → ℕ → Next → ℕ → Option Bound
-bound_at log k Ends events = None
+bound_at log k (Ends end) events = None
 bound_at log k Unknown events = Some (Steps k)
 bound_at log k (Access op) events = option_and_then (at_events k events) (slice_get log k)
 
@@ -54,8 +55,13 @@ FindsRead s nexts None = (k : ℕ) (op : OpFields) → slice_get nexts k ≡ Som
 FindsRead s nexts (Some turn) = (k : ℕ) × (op : OpFields) × (turn ≡ Read k op) × (slice_get nexts k ≡ Some (Access op)) × (kind_finds op.kind ≡ true)
 
 abbrev pub EachEnds : List Next → Bool → Type 0
-EachEnds nexts true = (k : ℕ) (next : Next) → slice_get nexts k ≡ Some next → next ≡ Ends
-EachEnds nexts false = (k : ℕ) × (next : Next) × (slice_get nexts k ≡ Some next) × (next ≢ Ends)
+EachEnds nexts true = (k : ℕ) (next : Next) → slice_get nexts k ≡ Some next → (end : End) × (next ≡ Ends end)
+EachEnds nexts false = (k : ℕ) × (next : Next) × (slice_get nexts k ≡ Some next) × ((end : End) → next ≢ Ends end)
+
+-- the threads of the log end as these threads do next
+pub record EndSo (log : List ThreadLog) (nexts : List Next) : Type 0 where
+  pub count : length log ≡ length nexts
+  pub each : (k : ℕ) (t : ThreadLog) (next : Next) → slice_get log k ≡ Some t → slice_get nexts k ≡ Some next → next ≡ Ends t.end
 
 -- ---- the turn
 
@@ -77,16 +83,20 @@ pub record IsAtBound (m : Module) (events : ℕ) (log : List ThreadLog) : Type 0
 abbrev pub IsWaiting : Module → State → ℕ → ThreadLog → Type 0
 IsWaiting m s k t = (op : OpFields) × ContinuesSo m k t (Access op) × WaitsFor s k op
 
+-- thread k makes no further event, and ends
+abbrev pub EndsIn : Module → ℕ → ThreadLog → Type 0
+EndsIn m k t = (end : End) × ContinuesSo m k t (Ends end)
+
 -- each thread ends or waits, and one waits
 pub record IsStuck (m : Module) (s : State) : Type 0 where
-  pub each : (k : ℕ) (t : ThreadLog) → slice_get s.log k ≡ Some t → ContinuesSo m k t Ends ⊎ IsWaiting m s k t
+  pub each : (k : ℕ) (t : ThreadLog) → slice_get s.log k ≡ Some t → EndsIn m k t ⊎ IsWaiting m s k t
   pub some : (k : ℕ) × (t : ThreadLog) × (slice_get s.log k ≡ Some t) × IsWaiting m s k t
 
 abbrev pub OfThread : Bound → Type 0
 OfThread bound = (k : ℕ) × ((bound ≡ Steps k) ⊎ (bound ≡ Events k))
 
 abbrev pub EachEndsIn : Module → List ThreadLog → Type 0
-EachEndsIn m log = (k : ℕ) (t : ThreadLog) → slice_get log k ≡ Some t → ContinuesSo m k t Ends
+EachEndsIn m log = (k : ℕ) (t : ThreadLog) → slice_get log k ≡ Some t → EndsIn m k t
 
 abbrev pub IsTurn : Module → ℕ → State → Turn → Type 0
 IsTurn m events s Nothing = EachEndsIn m s.log

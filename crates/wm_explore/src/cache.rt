@@ -1,14 +1,17 @@
 //! What threads were seen to do after some events, so that they need not be run again.
 ghost use Rattle.std.specs.Prelude.{◌≡◌, List, Some, true, IfOk, IfSome, OnOk, slice_get};
 ghost use Rattle.wm_ast.specs.declared.module.Module.{Module};
+ghost use Rattle.wm_event.specs.Limits.{max_steps};
 ghost use Rattle.wm_event.specs.declared.log.Start.{Start};
 ghost use Rattle.wm_explore.specs.Cache.{Recalls};
 ghost use Rattle.wm_explore.specs.Moved.{IsMovedBy};
+ghost use Rattle.wm_replay.specs.Positions.{HasFollowed, IsFollowed};
 
 use crate::moved::Moved;
 use std::alloc::{AllocError, Global};
 use wm_event::{Event, ThreadLog};
 use wm_list::List;
+use wm_replay::Followed;
 
 /// How many bits of a hash give the place of an entry.
 const PLACE_BITS: u32 = 10;
@@ -21,15 +24,17 @@ const MOST_EVENTS: usize = 256;
 
 /// What a thread does after some events.
 #[derive(Drop)]
-struct Entry {
+struct Entry<'m> {
     events: List<Event>,
     moved: Moved,
+    /// The thread after these events, until it is taken to go on from there.
+    thread: Option<Followed<'m>>,
 }
 
 /// What threads were seen to do after some events. An entry gives way to a later one with the same place.
 #[derive(Drop)]
-pub(crate) struct Cache {
-    entries: Vec<Option<Entry>>,
+pub(crate) struct Cache<'m> {
+    entries: Vec<Option<Entry<'m>>>,
 }
 
 /// Whether these are the same events, in the same order.
@@ -59,7 +64,20 @@ fn place_of(number: usize, events: &[Event]) -> usize {
     (hash >> (64 - PLACE_BITS)) as usize
 }
 
-impl Cache {
+impl<'m> Entry<'m> {
+    /// Whether it is of the thread of this number, after these events.
+    fn is_of(&self, number: usize, events: &[Event]) -> bool
+        ensures number { result ≡ true → self.now.moved.number ≡ number }
+        ensures events { result ≡ true → self.now.events ≡ events.now }
+    {
+        if self.moved.number != number {
+            return false;
+        }
+        same_events(self.events.as_slice(), events)
+    }
+}
+
+impl<'m> Cache<'m> {
     /// Nothing was seen.
     pub(crate) fn new(alloc: Global) -> Result<Self, AllocError>
         ensures { IfOk result (λ cache. (m : Module) (starts : List Start) → Recalls m starts cache) }
@@ -80,25 +98,54 @@ impl Cache {
         let Some(Some(entry)) = self.entries.get(place_of(number, events)) else {
             return None;
         };
-        if entry.moved.number != number {
-            return None;
-        }
-        if !same_events(entry.events.as_slice(), events) {
+        if !entry.is_of(number, events) {
             return None;
         }
         Some(entry.moved)
     }
 
-    /// Keeps what a thread does that has made the events of its log, if there are at most [`MOST_EVENTS`].
+    /// Takes the thread out that has made the events of its log but the last, if it was kept and nobody has taken it.
+    pub(crate) fn take_before(&mut self, number: usize, stated: &ThreadLog) -> Option<Followed<'m>>
+        ensures taken { (m : Module) (starts : List Start) → Recalls m starts self.old →
+            slice_get starts number ≡ Some stated.now.start → IfSome result (HasFollowed m number stated.now max_steps) }
+        ensures recalls { (m : Module) (starts : List Start) → Recalls m starts self.old → Recalls m starts self.new }
+    {
+        let events = stated.events.as_slice();
+        if events.is_empty() {
+            return None;
+        }
+        let first = &events[..events.len() - 1];
+        let slot = self.entries.get_mut(place_of(number, first))?;
+        let entry = slot.take()?;
+        if !entry.is_of(number, first) {
+            *slot = Some(entry);
+            return None;
+        }
+        let Entry {
+            events: kept,
+            moved,
+            thread,
+        } = entry;
+        *slot = Some(Entry {
+            events: kept,
+            moved,
+            thread: None,
+        });
+        thread
+    }
+
+    /// Keeps what a thread does that has made the events of its log, by which it was run, if there are at most
+    /// [`MOST_EVENTS`].
     pub(crate) fn keep(
         &mut self,
         alloc: Global,
         stated: &ThreadLog,
         moved: &Moved,
+        followed: Followed<'m>,
     ) -> Result<(), AllocError>
         ensures { OnOk result ((m : Module) (starts : List Start) → Recalls m starts self.old →
-            slice_get starts moved.now.number ≡ Some stated.now.start →
-            IsMovedBy m moved.now.number stated.now moved.now → Recalls m starts self.new) }
+            slice_get starts moved.now.number ≡ Some stated.now.start → IsMovedBy m moved.now.number stated.now moved.now →
+            IsFollowed m moved.now.number stated.now max_steps followed.entry → Recalls m starts self.new) }
     {
         let events = stated.events.as_slice();
         if events.len() > MOST_EVENTS {
@@ -109,6 +156,7 @@ impl Cache {
             *slot = Some(Entry {
                 events: copy,
                 moved: *moved,
+                thread: Some(followed),
             });
         }
         Ok(())

@@ -1,17 +1,19 @@
 //! The thread that made the last event of a state.
-ghost use Rattle.std.specs.Prelude.{◌≡◌, List, Some, true, IfOk, IfSome, OnOk};
-ghost use Rattle.wm_event.specs.declared.log.Start.{Start};
+ghost use Rattle.std.specs.Prelude.{◌≡◌, Some, true, IfOk, IfSome, OnOk, slice_get};
+ghost use Rattle.wm_event.specs.Limits.{max_steps};
 ghost use Rattle.wm_explore.specs.Cache.{Recalls};
 ghost use Rattle.wm_explore.specs.Executions.{starts_of};
 ghost use Rattle.wm_explore.specs.Moved.{IsMoved, IsMovedBy};
+ghost use Rattle.wm_replay.specs.Complete.{RunsWithinLimit};
 ghost use Rattle.wm_replay.specs.Following.{HasPlaces};
+ghost use Rattle.wm_replay.specs.Positions.{IsFollowed};
 
 use crate::cache::Cache;
 use crate::idle::ends_idly;
 use crate::state::State;
 use std::alloc::{AllocError, Global};
 use wm_event::{MAX_STEPS, ThreadLog};
-use wm_replay::{Next, follow, next_of};
+use wm_replay::{Followed, Next, follow, follow_on, next_of};
 use wm_valid::ValidModule;
 
 /// What a thread does that has made the events of its log.
@@ -25,40 +27,64 @@ pub(crate) struct Moved {
     pub is_idle: bool,
 }
 
-/// What a thread does that has made the events of its log, found by running it; None if it doesn't start.
+/// A thread of a state that was run by its log: on from where it was before its last event, if that was kept, and from its
+/// start otherwise. None if it doesn't start.
+fn followed_by<'m>(
+    alloc: Global,
+    module: &'m ValidModule,
+    state: &State,
+    stated: &ThreadLog,
+    number: usize,
+    cache: &mut Cache<'m>,
+) -> Result<Option<Followed<'m>>, AllocError>
+    requires thread { slice_get state.now.log number ≡ Some stated.now }
+    requires places { HasPlaces number stated.now.events }
+    requires recalls { Recalls «module».now (starts_of state.now.log) cache.old }
+    ensures followed { IfOk result (λ found. IfSome found (IsFollowed «module».now number stated.now max_steps)) }
+    ensures recalls { OnOk result (Recalls «module».now (starts_of state.now.log) cache.new) }
+{
+    let _log = state.log.threads();
+    if let Some(before) = cache.take_before(number, stated) {
+        let followed = follow_on(before, stated, number, MAX_STEPS)?;
+        return Ok(Some(followed));
+    }
+    match follow(alloc, module, stated, number, MAX_STEPS)? {
+        Err(_) => Ok(None),
+        Ok(followed) => Ok(Some(followed)),
+    }
+}
+
+/// What a thread does that has made the events of its log, by which it was run.
 fn moved_by(
     alloc: Global,
     module: &ValidModule,
     stated: &ThreadLog,
     number: usize,
-) -> Result<Option<Moved>, AllocError>
-    requires { HasPlaces number stated.now.events }
-    ensures { IfOk result (λ found. IfSome found (IsMovedBy «module».now number stated.now)) }
+    followed: &Followed,
+) -> Result<Moved, AllocError>
+    requires places { HasPlaces number stated.now.events }
+    requires runs { RunsWithinLimit number stated.now followed.now }
+    requires same { followed.now.thread.module ≡ «module».now }
+    ensures { IfOk result (IsMovedBy «module».now number stated.now) }
 {
-    match follow(alloc, module, stated, number, MAX_STEPS)? {
-        Err(_) => Ok(None),
-        Ok(followed) => {
-            let is_idle = ends_idly(alloc, module, stated, number, &followed)?;
-            Ok(Some(Moved {
-                number,
-                next: next_of(&followed, stated, number),
-                is_idle,
-            }))
-        }
-    }
+    let is_idle = ends_idly(alloc, module, stated, number, followed)?;
+    Ok(Moved {
+        number,
+        next: next_of(followed, stated, number),
+        is_idle,
+    })
 }
 
 /// What the thread does that made the event that arrived last, if that isn't known yet.
-pub(crate) fn last_moved(
+pub(crate) fn last_moved<'m>(
     alloc: Global,
-    module: &ValidModule,
+    module: &'m ValidModule,
     state: &State,
-    cache: &mut Cache,
+    cache: &mut Cache<'m>,
 ) -> Result<Option<Moved>, AllocError>
-    ensures moved { IfOk result (λ found. (starts : List Start) → starts_of state.now.log ≡ starts →
-        Recalls «module».now starts cache.old → IfSome found (IsMoved «module».now state.now)) }
-    ensures recalls { OnOk result ((starts : List Start) → starts_of state.now.log ≡ starts →
-        Recalls «module».now starts cache.old → Recalls «module».now starts cache.new) }
+    requires recalls { Recalls «module».now (starts_of state.now.log) cache.old }
+    ensures moved { IfOk result (λ found. IfSome found (IsMoved «module».now state.now)) }
+    ensures recalls { OnOk result (Recalls «module».now (starts_of state.now.log) cache.new) }
 {
     let Some(last) = state.arrived.as_slice().last() else {
         return Ok(None);
@@ -74,10 +100,11 @@ pub(crate) fn last_moved(
     if let Some(moved) = cache.find(number, stated) {
         return Ok(Some(moved));
     }
-    match moved_by(alloc, module, stated, number)? {
+    match followed_by(alloc, module, state, stated, number, cache)? {
         None => Ok(None),
-        Some(moved) => {
-            cache.keep(alloc, stated, &moved)?;
+        Some(followed) => {
+            let moved = moved_by(alloc, module, stated, number, &followed)?;
+            cache.keep(alloc, stated, &moved, followed)?;
             Ok(Some(moved))
         }
     }

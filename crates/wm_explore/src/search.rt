@@ -7,10 +7,10 @@ ghost use Rattle.wm_event.specs.declared.log.ThreadLog.{ThreadLog};
 ghost use Rattle.wm_explore.specs.Bounds.{Excuses, IsExcused};
 ghost use Rattle.wm_explore.specs.Executions.{IsFinished, ends_of};
 ghost use Rattle.wm_explore.specs.Known.{IsNoted};
-ghost use Rattle.wm_explore.specs.Search.{AddsPermitted, AddsRead, Explores, IsFirstState, IsProgress, IsStep, Lists};
+ghost use Rattle.wm_explore.specs.Search.{AddsPermitted, AddsRead, EndsFound, Explores, IsFirstState, IsProgress, IsStep, Lists};
 ghost use Rattle.wm_explore.specs.Subtrees.{Advances};
 ghost use Rattle.wm_explore.specs.States.{count_in, extended};
-ghost use Rattle.wm_explore.specs.Turns.{AreNexts, EachEndsIn, MakesNext};
+ghost use Rattle.wm_explore.specs.Turns.{AreNexts, EachEndsIn, EndSo, MakesNext};
 ghost use Rattle.wm_explore.specs.Writing.{ListsWriting};
 
 use crate::bound::{Bound, Limits};
@@ -97,6 +97,43 @@ pub(crate) fn is_listed(finished: &[Finished], log: &Log) -> bool
     false
 }
 
+/// Whether what a thread does next is to end so.
+fn ends_as(next: Next, end: End) -> bool
+    ensures { result ≡ true → next ≡ Next.Ends end }
+{
+    match next {
+        Next::Ends(other) => are_same(other, end),
+        Next::Access(_) | Next::Unknown => false,
+    }
+}
+
+/// Whether the threads of an execution end as these threads do next.
+fn end_so(threads: &[ThreadLog], nexts: &[Next]) -> bool
+    ensures { result ≡ true → EndSo threads.now nexts.now }
+{
+    if threads.len() != nexts.len() {
+        return false;
+    }
+    for (number, thread) in threads.iter().enumerate() {
+        if !ends_as(nexts[number], thread.end) {
+            return false;
+        }
+    }
+    true
+}
+
+/// Whether an execution was found that ends as these threads do next.
+fn ends_found(finished: &[Finished], nexts: &[Next]) -> bool
+    ensures { result ≡ true → EndsFound finished.now nexts.now }
+{
+    for other in finished {
+        if end_so(other.log.threads(), nexts) {
+            return true;
+        }
+    }
+    false
+}
+
 /// Whether each thread has ended.
 fn is_finished(threads: &[ThreadLog]) -> bool
     ensures finished { result ≡ true → IsFinished threads.now }
@@ -116,11 +153,16 @@ fn finish(
     module: &ValidModule,
     nodes: u64,
     state: &State,
+    nexts: &[Next],
     progress: &mut Progress,
 ) -> Result<(), AllocError>
     requires ends { EachEndsIn «module».now state.now.log }
+    requires nexts { AreNexts «module».now state.now.log nexts.now }
     ensures { OnOk result ((events : ℕ) → IsStep «module».now events state.now progress.old progress.new) }
 {
+    if ends_found(progress.finished.as_slice(), nexts) {
+        return Ok(());
+    }
     let log = match complete(alloc, module, &state.log)? {
         Completion::Completed(log) => log,
         Completion::NoRun(_) => return Ok(()),
@@ -284,7 +326,7 @@ fn extend(
     ensures { OnOk result (IsStep «module».now limits.events state progress.old progress.new) }
 {
     match turn_of(&state, nexts, limits.events) {
-        Turn::Nothing => finish(alloc, module, limits.nodes, &state, progress),
+        Turn::Nothing => finish(alloc, module, limits.nodes, &state, nexts, progress),
         Turn::Write(thread, op) => {
             let event = next_event(&state, thread, op, 0);
             let past = past_of_write(&state, event.key());

@@ -13,7 +13,7 @@ use crate::moved::Moved;
 use crate::state::State;
 use crate::writing::is_writer;
 use std::alloc::{AllocError, Global};
-use wm_event::{Op, OpFields, ThreadLog};
+use wm_event::{End, Op, OpFields, ThreadLog};
 use wm_list::List;
 use wm_replay::{Next, next_after};
 use wm_valid::ValidModule;
@@ -33,7 +33,7 @@ pub(crate) enum Turn {
     Stuck,
 }
 
-/// What a thread of a state does next, of which it isn't known; one that doesn't start ends.
+/// What a thread of a state does next, of which it isn't known; one that doesn't start ends as one that is cut.
 fn next_of_thread(
     alloc: Global,
     module: &ValidModule,
@@ -51,7 +51,7 @@ fn next_of_thread(
         return Ok(moved.next);
     }
     match next_after(alloc, module, stated, number)? {
-        Err(_) => Ok(Next::Ends),
+        Err(_) => Ok(Next::Ends(End::Cut)),
         Ok(next) => Ok(next),
     }
 }
@@ -83,7 +83,7 @@ fn bound_of(state: &State, number: usize, next: Next, events: u32) -> Option<Bou
     ensures { result ≡ bound_at state.now.log number next events }
 {
     match next {
-        Next::Ends => None,
+        Next::Ends(_) => None,
         Next::Unknown => Some(Bound::Steps(number)),
         Next::Access(_) => {
             let stated = state.log.threads().get(number)?;
@@ -199,7 +199,7 @@ fn each_ends(nexts: &[Next]) -> bool
 {
     for next in nexts {
         match next {
-            Next::Ends => {}
+            Next::Ends(_) => {}
             Next::Access(_) | Next::Unknown => return false,
         }
     }

@@ -137,10 +137,10 @@ module _ (m : Module) (k : ℕ) (t u : ThreadLog) (is : IsEndedRun m k t u) (c :
       none-some here (sym (more_none m k i) ∙ sym (split ∙ ap (more m k i) none) ∙ here_so)
 
   -- at the run's end
-  at_end_of_run : j ≡ u.steps → (end_of c ≢ Cut) × (u.events ≡ take n t.events)
+  at_end_of_run : j ≡ u.steps → (u.end ≡ end_of c) × (u.events ≡ take n t.events)
   at_end_of_run e =
       let same : whole.ran ≡ here = same_Some _ _ (sym whole.ran_so ∙ ap (steps m k f.start (reads_of u.events)) (sym e) ∙ here_so) in
-      (λ cut. is.ended (sym whole.ended ∙ ap (λ (x : Ran). end_of x.config) same ∙ cut), sym whole.made ∙ ap (λ (x : Ran). x.events) same)
+      (sym whole.ended ∙ ap (λ (x : Ran). end_of x.config) same, sym whole.made ∙ ap (λ (x : Ran). x.events) same)
 
   -- before the run's end
   before_end : j < u.steps → (next : Ran) × (run_on m k here ≡ Some next) × ((es : List Event) × (u.events ≡ next.events ++ es))
@@ -155,15 +155,15 @@ module _ (m : Module) (k : ℕ) (t u : ThreadLog) (is : IsEndedRun m k t u) (c :
 
   -- ---- where the thread has ended
 
-  pub ends_too : end_of c ≢ Cut → (u.events ≡ t.events) × (u.steps ≤ 1000000)
+  pub ends_too : end_of c ≢ Cut → (u.events ≡ t.events) × (u.steps ≤ 1000000) × (u.end ≡ end_of c)
   ends_too over = by (cases_order j u.steps)
     where
       within : j ≤ 1000000
       within = stops_within m c t 1000000 j n f.stops
 
-      by : (j ≡ u.steps) ⊎ ((j < u.steps) ⊎ (u.steps < j)) → (u.events ≡ t.events) × (u.steps ≤ 1000000)
+      by : (j ≡ u.steps) ⊎ ((j < u.steps) ⊎ (u.steps < j)) → (u.events ≡ t.events) × (u.steps ≤ 1000000) × (u.end ≡ end_of c)
       by (inr (inl lt)) = let next = before_end lt in absurd (none-some next.0 (sym (no_step m k here (ended_stops m c over)) ∙ next.1))
-      by (inl e) = (no_other (at_end_of_run e).1, omega (arith, within, e))
+      by (inl e) = (no_other (at_end_of_run e).1, omega (arith, within, e), (at_end_of_run e).0)
       by (inr (inr gt)) = absurd (not_beyond gt)
 
   -- ---- where it hasn't
@@ -173,7 +173,7 @@ module _ (m : Module) (k : ℕ) (t u : ThreadLog) (is : IsEndedRun m k t u) (c :
     where
       by : (j ≡ u.steps) ⊎ ((j < u.steps) ⊎ (u.steps < j)) → j < u.steps
       by (inr (inl lt)) = lt
-      by (inl e) = absurd ((at_end_of_run e).0 cut)
+      by (inl e) = absurd (is.ended ((at_end_of_run e).0 ∙ cut))
       by (inr (inr gt)) = absurd (not_beyond gt)
 
   -- the next event of the run is made by the access that the thread asks for

@@ -14,3 +14,4 @@ pub mod Longest
 pub mod Completions
 pub mod Continuations
 pub mod Comparisons
+pub mod Onward

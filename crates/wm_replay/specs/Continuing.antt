@@ -24,9 +24,9 @@ pub record IsEndedRun (m : Module) (k : ℕ) (t u : ThreadLog) : Type 0 where
 abbrev pub HasNextBy : ℕ → ThreadLog → ThreadLog → OpFields → Type 0
 HasNextBy k t u op = (r : ℕ) × Fits op.width r × (slice_get u.events (length t.events) ≡ Some (event_made record { thread = k; number = length t.events } op r))
 
--- u ends after the events of t, makes this access, or makes more than 1,000,000 steps
+-- u ends so after the events of t, makes this access, or makes more than 1,000,000 steps
 abbrev pub GoesOn : ℕ → ThreadLog → ThreadLog → Next → Type 0
-GoesOn k t u Ends = (u.events ≡ t.events) × (u.steps ≤ max_steps)
+GoesOn k t u (Ends end) = (u.events ≡ t.events) × (u.steps ≤ max_steps) × (u.end ≡ end)
 GoesOn k t u (Access op) = HasNextBy k t u op
 GoesOn k t u Unknown = max_steps < u.steps
 

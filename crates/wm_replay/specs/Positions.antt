@@ -1,5 +1,5 @@
 -- The positions in the code at which the threads of a log make its events.
-use Rattle.std.specs.Prelude.{◌≡◌, ℕ, ◌+◌, Bool, true, false, List, [], ◌∷◌, ◌++◌, length, take, drop, Some, Result, Ok, Err, slice_get, ⊤}
+use Rattle.std.specs.Prelude.{◌≡◌, ℕ, ◌+◌, ◌≤◌, Bool, true, false, List, [], ◌∷◌, ◌++◌, length, take, drop, Some, Result, Ok, Err, slice_get, ⊤}
 use Rattle.wm_ast.specs.declared.module.Module.{Module}
 use Rattle.wm_event.specs.declared.log.ThreadLog.{ThreadLog}
 use Rattle.wm_machine.specs.declared.fault.StartFault.{StartFault}
@@ -11,7 +11,7 @@ use Rattle.wm_machine.specs.Term.{Config}
 use Rattle.wm_replay.specs.declared.by_log.Followed.{Followed}
 use Rattle.wm_replay.specs.declared.answer.ReplayAnswer.{ReplayAnswer}
 use Rattle.wm_replay.specs.declared.answer.ReplayAnswer.TheVariants.{Same, StartRefused, Differs}
-use Rattle.wm_replay.specs.Following.{Accesses, RunsByLog}
+use Rattle.wm_replay.specs.Following.{Accesses, FollowsLog, RunsByLog}
 use Rattle.wm_replay.specs.Replay.{reads_of, start_of}
 
 -- thread k is in this configuration after this number of steps of its run by the log
@@ -61,6 +61,28 @@ HasPositions m k t (Err fault) = ⊤
 abbrev pub HasReached : Module → ℕ → ThreadLog → Result Followed StartFault → Type 0
 HasReached m k t (Ok f) = IsReached m k t f.steps f.thread
 HasReached m k t (Err fault) = ⊤
+
+-- thread k has made this number of steps of its run by the log, and the events below n, at these positions; it is in this state
+pub record HasCome (m : Module) (k : ℕ) (t : ThreadLog) (s : State) (count n : ℕ) (positions : List CodePosition) : Type 0 where
+  pub start : Config
+  pub is_start : start_of m t ≡ Ok start
+  pub listed : n ≤ length t.events
+  pub ran_so : steps m k start (reads_of t.events) count ≡ Some record { events = take n t.events; config = config_of s; reads = reads_of (drop n t.events) }
+  pub reached : IsReached m k t count s
+  pub made_at : ArePositions m k t n positions
+
+-- thread k was run by its log
+pub record IsFollowed (m : Module) (k : ℕ) (t : ThreadLog) (limit : ℕ) (f : Followed) : Type 0 where
+  pub runs : FollowsLog m k t limit (Ok f)
+  pub positions : HasPositions m k t (Ok f)
+  pub reached : HasReached m k t (Ok f)
+
+-- thread k was run by the first events of its log
+pub record HasFollowed (m : Module) (k : ℕ) (t : ThreadLog) (limit : ℕ) (f : Followed) : Type 0 where
+  pub first : ThreadLog
+  pub start : first.start ≡ t.start
+  pub events : first.events ≡ take (length first.events) t.events
+  pub followed : IsFollowed m k first limit f
 
 -- the position of a thread in this state is noted if it makes its log's next event
 abbrev pub NotesPosition : State → List CodePosition → List CodePosition → Bool → Type 0

@@ -1,14 +1,12 @@
 //! A thread that is run by its log: on the values that its events read, as long as it makes those events.
-ghost use Rattle.std.specs.Prelude.{◌≡◌, ℕ, Ok, true, false, IfOk};
+ghost use Rattle.std.specs.Prelude.{◌≡◌, ◌≤◌, ℕ, Ok, true, false, IfOk};
 ghost use Rattle.wm_event.specs.Op.{kind_finds};
 ghost use Rattle.wm_event.specs.Reply.{ReadAnswers};
-ghost use Rattle.wm_machine.specs.Paths.{IsAtStart};
 ghost use Rattle.wm_machine.specs.Run.{end_of as config_end};
 ghost use Rattle.wm_machine.specs.State.{config_of, need_of, value_or_zero};
 ghost use Rattle.wm_machine.specs.Stepping.{HasNoLocalStep};
 ghost use Rattle.wm_replay.specs.Following.{FollowsLog, HasPlaces, MakesEvent, MakesNext, MakesNotEvent, RunsByLog};
-ghost use Rattle.wm_replay.specs.Positions.{ArePositions, HasPositions, HasReached, IsReached, MovesIfMade, NotesPosition};
-ghost use Rattle.wm_replay.specs.Replay.{start_of};
+ghost use Rattle.wm_replay.specs.Positions.{ArePositions, HasCome, HasFollowed, HasPositions, HasReached, IsFollowed, IsReached, MovesIfMade, NotesPosition};
 
 use std::alloc::{AllocError, Global};
 use wm_event::{End, Event, EventId, Op, Reply, ThreadLog};
@@ -104,17 +102,17 @@ pub fn end_of(thread: &Thread) -> End
     }
 }
 
-/// Runs a thread on the values that its log read, until it ends, comes to an access that isn't the log's next event, or
+/// Runs a thread that has come so far by its log on, until it ends, comes to an access that isn't the log's next event, or
 /// has made `limit` steps.
 fn run_by_log(
-    alloc: Global,
     thread: &mut Thread,
     stated: &ThreadLog,
     number: usize,
     limit: u32,
+    mut progress: Progress,
 ) -> Result<Progress, AllocError>
-    requires start { start_of thread.old.module stated.now ≡ Ok (config_of thread.old) }
-    requires at_start { IsAtStart thread.old }
+    requires come { HasCome thread.old.module number stated.now thread.old progress.steps progress.events progress.positions.items }
+    requires within { progress.steps ≤ limit }
     requires places { HasPlaces number stated.now.events }
     ensures runs { IfOk result (λ p. RunsByLog thread.old.module number stated.now limit (config_of thread.new) p.steps p.events) }
     ensures positions { IfOk result (λ p. ArePositions thread.old.module number stated.now p.events p.positions.items) }
@@ -122,24 +120,46 @@ fn run_by_log(
     ensures same { thread.new.module ≡ thread.old.module }
 {
     let stated_events = stated.events.as_slice();
-    let mut steps = 0u32;
-    let mut events = 0usize;
-    let mut positions = Vec::new(alloc);
     loop {
-        match thread.run(limit - steps) {
-            Ok(local) => steps += local,
+        match thread.run(limit - progress.steps) {
+            Ok(local) => progress.steps += local,
             Err(AdvanceFault::OutOfMemory) => return Err(AllocError),
         }
-        if steps >= limit || !event_by_log(thread, stated_events, events, &mut positions)? {
-            return Ok(Progress {
-                steps,
-                events,
-                positions,
-            });
+        if progress.steps >= limit
+            || !event_by_log(
+                thread,
+                stated_events,
+                progress.events,
+                &mut progress.positions,
+            )?
+        {
+            return Ok(progress);
         }
-        steps += 1;
-        events += 1;
+        progress.steps += 1;
+        progress.events += 1;
     }
+}
+
+/// Runs a thread that has come so far by its log on.
+fn followed_from<'m>(
+    mut thread: Thread<'m>,
+    stated: &ThreadLog,
+    number: usize,
+    limit: u32,
+    progress: Progress,
+) -> Result<Followed<'m>, AllocError>
+    requires come { HasCome thread.module number stated.now thread progress.steps progress.events progress.positions.items }
+    requires within { progress.steps ≤ limit }
+    requires places { HasPlaces number stated.now.events }
+    ensures { IfOk result (IsFollowed thread.entry.module number stated.now limit) }
+{
+    let progress = run_by_log(&mut thread, stated, number, limit, progress)?;
+    Ok(Followed {
+        thread,
+        steps: progress.steps,
+        events: progress.events,
+        positions: List::from_vec(progress.positions),
+    })
 }
 
 /// Starts a thread as its log states, and runs it on the values that its events read. It stops when it has ended,
@@ -164,18 +184,46 @@ pub fn follow<'m>(
 {
     let name = stated.start.name.as_str();
     let args = stated.start.args.as_slice();
-    let mut thread = match Thread::start(alloc, module, name, args) {
+    let thread = match Thread::start(alloc, module, name, args) {
         Ok(thread) => thread,
         Err(StartFault::OutOfMemory) => return Err(AllocError),
         Err(fault) => return Ok(Err(fault)),
     };
-    match run_by_log(alloc, &mut thread, stated, number, limit) {
-        Err(refused) => Err(refused),
-        Ok(progress) => Ok(Ok(Followed {
-            thread,
-            steps: progress.steps,
-            events: progress.events,
-            positions: List::from_vec(progress.positions),
-        })),
-    }
+    let none = Progress {
+        steps: 0,
+        events: 0,
+        positions: Vec::new(alloc),
+    };
+    let followed = followed_from(thread, stated, number, limit, none)?;
+    Ok(Ok(followed))
+}
+
+/// Runs a thread on that was run by the first events of its log, by [`follow`] or by this function with the same number
+/// and limit. The result is the one that [`follow`] gives for the whole log.
+///
+/// # Errors
+///
+/// Only if an allocation fails.
+pub fn follow_on<'m>(
+    followed: Followed<'m>,
+    stated: &ThreadLog,
+    number: usize,
+    limit: u32,
+) -> Result<Followed<'m>, AllocError>
+    requires places { HasPlaces number stated.now.events }
+    requires first { HasFollowed followed.thread.module number stated.now limit followed }
+    ensures { IfOk result (IsFollowed followed.entry.thread.module number stated.now limit) }
+{
+    let Followed {
+        thread,
+        steps,
+        events,
+        positions,
+    } = followed;
+    let progress = Progress {
+        steps,
+        events,
+        positions: positions.into_vec(),
+    };
+    followed_from(thread, stated, number, limit, progress)
 }

@@ -13,8 +13,8 @@ use wm_valid::ValidModule;
 /// What a thread does after the events of its log.
 #[derive(Clone, Copy)]
 pub enum Next {
-    /// It makes no further access and ends, within [`MAX_STEPS`] steps.
-    Ends,
+    /// It makes no further access and ends so, within [`MAX_STEPS`] steps.
+    Ends(End),
     /// It makes this access.
     Access(Op),
     /// None of the above within [`MAX_STEPS`] steps; or it doesn't make the events of the log.
@@ -28,8 +28,9 @@ pub fn next_of(followed: &Followed, stated: &ThreadLog, number: usize) -> Next
     requires runs { RunsWithinLimit number stated.now followed.now }
     ensures { ContinuesSo followed.now.thread.module number stated.now result }
 {
-    match end_of(&followed.thread) {
-        End::Done(_) | End::Trap(_) => return Next::Ends,
+    let end = end_of(&followed.thread);
+    match end {
+        End::Done(_) | End::Trap(_) => return Next::Ends(end),
         End::Cut => {}
     }
     if followed.events < stated.events.len() {

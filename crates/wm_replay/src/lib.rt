@@ -11,7 +11,7 @@ mod law;
 mod parallel;
 
 pub use answer::{Place, ReplayAnswer};
-pub use by_log::{Followed, end_of, follow};
+pub use by_log::{Followed, end_of, follow, follow_on};
 pub use compare::{Replayed, replay, replay_with_positions};
 pub use completing::{Completion, complete, without_run};
 pub use continuing::{Next, next_after, next_of};

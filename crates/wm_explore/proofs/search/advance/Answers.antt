@@ -1,4 +1,5 @@
 use Rattle.std.proofs.Common.{◌≡◌, length, refl, sym, ap, subst, ◌∙◌, append-nil, arith}
+use Rattle.wm_explore.specs.Cache.{Recalls}
 use Rattle.wm_explore.specs.Turns.{AreNexts}
 use Rattle.wm_explore.specs.declared.search.Progress.{Progress}
 use Rattle.wm_explore.proofs.Beside.{advances_dropped, advances_extended, advances_none, advances_same}
@@ -33,12 +34,12 @@ nexts-requires-clause-known c =
     (taken_noted c.args.module.now c.args.starts.now c.args.limits.events p c.loop-graphs.invariant.so_far.progress c.in-Some.state
     (record { work = c.pop.new.self; finished = p.finished; met = p.met }) c.in-Some.ensures.items refl refl).nexts
 
-pub nexts-requires-clause-moved : goal.nexts-requires-clause-moved
-nexts-requires-clause-moved c =
+pub last_moved-requires : goal.last_moved-requires
+last_moved-requires c =
     let p = c.loop-graphs.progress in
     let fine = taken_is_state c.args.module.now c.args.starts.now c.args.limits.events p c.loop-graphs.invariant.so_far.progress c.in-Some.state
     (record { work = c.pop.new.self; finished = p.finished; met = p.met }) c.in-Some.ensures.items refl refl in
-    c.in_ok-moved-in-Some.ensures.moved c.args.starts.now fine.started c.loop-graphs.invariant.recalls
+    record { recalls = subst (λ ss. Recalls c.args.module.now ss c.loop-graphs.cache) (sym fine.started) c.loop-graphs.invariant.recalls }
 
 pub loop-graphs-preserved : goal.loop-graphs-preserved
 loop-graphs-preserved c =
@@ -53,7 +54,7 @@ loop-graphs-preserved c =
     let step = c.in_ok-extend-in-Some.ensures starts fine (rest_progress m starts events p so_far.progress s q c.in-Some.ensures.items refl refl) in
     record {
       so_far = advances_extended m starts events c.args.progress.now p so_far s q c.in-Some.ensures.items refl refl c.extend.new.progress step;
-      recalls = c.in_ok-moved-in-Some.ensures.recalls starts fine.started c.loop-graphs.invariant.recalls;
+      recalls = subst (λ ss. Recalls m ss c.last_moved.new.cache) fine.started c.in_ok-moved-in-Some.ensures.recalls;
     }
 
 pub loop-graphs-preserved-then-is_idle : goal.loop-graphs-preserved-then-is_idle
@@ -66,10 +67,9 @@ loop-graphs-preserved-then-is_idle c =
     let s = c.in-Some.state in
     let so_far = c.loop-graphs.invariant.so_far in
     let fine = taken_is_state m starts events p so_far.progress s q c.in-Some.ensures.items refl refl in
-    let found = c.in_ok-moved-in-Some.ensures.moved starts fine.started c.loop-graphs.invariant.recalls in
     record {
-      so_far = advances_dropped m starts events c.args.progress.now p so_far s q c.in-Some.ensures.items refl refl (idle_turn m s c.in_ok-moved-in-Some.moved found (c.is_idle.ensures c.if-is_idle.true));
-      recalls = c.in_ok-moved-in-Some.ensures.recalls starts fine.started c.loop-graphs.invariant.recalls;
+      so_far = advances_dropped m starts events c.args.progress.now p so_far s q c.in-Some.ensures.items refl refl (idle_turn m s c.in_ok-moved-in-Some.moved c.in_ok-moved-in-Some.ensures.moved (c.is_idle.ensures c.if-is_idle.true));
+      recalls = subst (λ ss. Recalls m ss c.last_moved.new.cache) fine.started c.in_ok-moved-in-Some.ensures.recalls;
     }
 
 pub returns-in-None : goal.returns-in-None

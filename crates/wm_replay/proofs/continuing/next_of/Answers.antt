@@ -17,23 +17,25 @@ not_cut end (inr is) cut = cc (sym is.1 ∙ cut)
 pub returns-in-Done : goal.returns-in-Done
 returns-in-Done c u is =
     let f = c.args.followed.now in
-    ends_too f.thread.module c.args.number c.args.stated.now u is (config_of f.thread) f.steps f.events c.requires.runs (λ cut. not_cut c.end_of.result c.in-Done.is (c.end_of.ensures ∙ cut))
+    let ends = ends_too f.thread.module c.args.number c.args.stated.now u is (config_of f.thread) f.steps f.events c.requires.runs
+    (λ cut. not_cut c.end_of-end.result c.in-Done.is (c.end_of-end.ensures ∙ cut)) in
+    (ends.0, ends.1, ends.2 ∙ sym c.end_of-end.ensures)
 
 pub returns-then-followed-len : goal.returns-then-followed-len
 returns-then-followed-len c u is =
     let f = c.args.followed.now in
     let left = subst (λ n. f.events < n) c.len.ensures c.if-followed-len.true in
-    unknown_left f.thread.module c.args.number c.args.stated.now u is (config_of f.thread) f.steps f.events c.requires.runs (sym c.end_of.ensures ∙ c.in-Cut.is) left
+    unknown_left f.thread.module c.args.number c.args.stated.now u is (config_of f.thread) f.steps f.events c.requires.runs (sym c.end_of-end.ensures ∙ c.in-Cut.is) left
 
 pub returns-in-Access : goal.returns-in-Access
 returns-in-Access c u is =
     let f = c.args.followed.now in
     let all = subst (λ n. n ≤ f.events) c.len.ensures c.if-followed-len.false in
-    asks_next f.thread.module c.args.number c.args.stated.now u is (config_of f.thread) f.steps f.events c.requires.runs c.in-Access.op (sym c.end_of.ensures ∙ c.in-Cut.is) all
+    asks_next f.thread.module c.args.number c.args.stated.now u is (config_of f.thread) f.steps f.events c.requires.runs c.in-Access.op (sym c.end_of-end.ensures ∙ c.in-Cut.is) all
     (λ r. access_of_need f.thread r c.in-Access.op (sym (c.next.ensures r) ∙ c.in-Access.is))
 
 pub returns-in-Local : goal.returns-in-Local
 returns-in-Local c u is =
     let f = c.args.followed.now in
-    unknown_local f.thread.module c.args.number c.args.stated.now u is (config_of f.thread) f.steps f.events c.requires.runs (sym c.end_of.ensures ∙ c.in-Cut.is)
+    unknown_local f.thread.module c.args.number c.args.stated.now u is (config_of f.thread) f.steps f.events c.requires.runs (sym c.end_of-end.ensures ∙ c.in-Cut.is)
     (no_access f.thread c.next.result c.in-Local.is (sym (c.next.ensures 0)))
