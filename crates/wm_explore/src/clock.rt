@@ -49,11 +49,9 @@ impl Clock {
     pub(crate) fn joined(&self, other: &Self) -> Self
         ensures { (a : EventKey) → Counts result a → Counts self.now a ⊎ Counts other.now a }
     {
-        let mut per_thread = self.per_thread;
+        let mut per_thread = [0; MAX_THREADS];
         for lane in 0..MAX_THREADS {
-            if per_thread[lane] < other.per_thread[lane] {
-                per_thread[lane] = other.per_thread[lane];
-            }
+            per_thread[lane] = self.per_thread[lane].max(other.per_thread[lane]);
         }
         Clock { per_thread }
     }

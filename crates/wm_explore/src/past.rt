@@ -96,10 +96,10 @@ fn hides(state: &State, before: &Clock, place: usize, source: EventId, address: 
     if !before.counts(*key) {
         return false;
     }
-    if byte_left(state, *key, address).is_none() {
+    if !is_after(state, place, *key, source) {
         return false;
     }
-    is_after(state, place, *key, source)
+    byte_left(state, *key, address).is_some()
 }
 
 /// Whether some event surely writes an address after a source and before the next event.
