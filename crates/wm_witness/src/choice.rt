@@ -25,6 +25,13 @@ pub(crate) struct Taken {
     pub writer: EventId,
 }
 
+/// Two writers that a byte of a read can have.
+#[derive(Clone, Copy)]
+pub(crate) struct Two {
+    pub first: EventId,
+    pub second: EventId,
+}
+
 /// Which writers a byte of a read can have.
 #[derive(Clone, Copy)]
 pub(crate) enum Choice {
@@ -114,26 +121,69 @@ fn denies(assumption: &Assumption, reader: EventKey, byte: u8, id: EventId) -> b
     }
 }
 
-/// Whether one of the assumptions says that the byte of the read isn't from the writer.
-fn is_denied(
+/// Whether one of the assumptions in the list from a place on says that the byte of the read isn't from the writer.
+fn is_denied_from(
     start: &Candidate,
     assumed: &[Assumption],
+    happens: &Relation,
+    first: Option<usize>,
     reader: EventKey,
     byte: u8,
     id: EventId,
 ) -> bool
     ensures { IsTrue result → IsExcluded start.now assumed.now reader byte id }
 {
-    for assumption in assumed {
-        if denies(assumption, reader, byte, id) {
+    let mut next = first;
+    for _ in 0..assumed.len() {
+        let Some(place) = next else {
+            return false;
+        };
+        if place >= assumed.len() {
+            return false;
+        }
+        if denies(&assumed[place], reader, byte, id) {
             return true;
         }
+        next = happens.named.after(place);
     }
     false
 }
 
+/// Whether an assumption about the writer of a byte of a read says that the byte isn't from the writer.
+fn is_denied_byte(
+    start: &Candidate,
+    assumed: &[Assumption],
+    happens: &Relation,
+    reader: EventKey,
+    byte: u8,
+    id: EventId,
+) -> bool
+    ensures { IsTrue result → IsExcluded start.now assumed.now reader byte id }
+{
+    let first = happens.first_of_bytes(reader);
+    is_denied_from(start, assumed, happens, first, reader, byte, id)
+}
+
+/// Whether an assumption says that a read, and so a byte of it, takes nothing from the writer.
+fn is_denied_event(
+    start: &Candidate,
+    assumed: &[Assumption],
+    happens: &Relation,
+    reader: EventKey,
+    byte: u8,
+    id: EventId,
+) -> bool
+    ensures { IsTrue result → IsExcluded start.now assumed.now reader byte id }
+{
+    if let EventId::Init = id {
+        return false;
+    }
+    let first = happens.first_of_events(reader);
+    is_denied_from(start, assumed, happens, first, reader, byte, id)
+}
+
 /// Whether a write is known to come between a writer and a read of the byte in happens-before.
-fn comes_between(
+pub(crate) fn comes_between(
     start: &Candidate,
     assumed: &[Assumption],
     happens: &Relation,
@@ -186,7 +236,68 @@ fn last_of(ids: &[EventId], count: u32) -> Option<EventKey> {
     }
 }
 
-/// Whether some write is known to come between a writer and a read of the byte in happens-before.
+/// Whether a writer is known to happen before an event, named by its thread and its number there. Nothing rests on it.
+fn is_counted(happens: &Relation, writer: EventId, thread: usize, number: usize) -> bool {
+    match writer {
+        EventId::Init => true,
+        EventId::At(key) => happens.counts(thread, number, key),
+    }
+}
+
+/// A write of the first byte of a read that is known to happen before it. Nothing rests on it.
+pub(crate) fn write_before(
+    start: &Candidate,
+    happens: &Relation,
+    event: &Event,
+) -> Option<EventKey> {
+    let address = u64::from(event.address);
+    let index = happens.index(event.key())?;
+    for thread in 0..start.log().threads().len() {
+        let count = happens.count(index, thread);
+        if count > 0
+            && let Some(other) = last_of(start.thread_writes_to(thread, address), count)
+        {
+            return Some(other);
+        }
+    }
+    None
+}
+
+/// Whether a write of a thread is known to come between a writer and a read of the byte in happens-before: the last one before
+/// the read is looked at. None does if the last event of the thread before the read isn't known to happen after the writer.
+fn is_overwritten_by(
+    start: &Candidate,
+    assumed: &[Assumption],
+    happens: &Relation,
+    event: &Event,
+    byte: u8,
+    writer: EventId,
+    thread: usize,
+) -> bool
+    requires rows { AreRows start.now assumed.now happens.now.kind happens.now.rows.items }
+    requires kind { happens.now.kind ≡ Happens }
+    requires event { IsEventOf start.now event.now }
+    ensures { IsTrue result → IsExcluded start.now assumed.now (key_of event.now) byte writer }
+{
+    if thread >= start.log().threads().len() {
+        return false;
+    }
+    let count = happens.count_before(event.key(), thread);
+    if count == 0 || !is_counted(happens, writer, thread, count as usize - 1) {
+        return false;
+    }
+    let address = u64::from(event.address) + u64::from(byte);
+    let Some(other) = last_of(start.thread_writes_to(thread, address), count) else {
+        return false;
+    };
+    if !is_counted(happens, writer, thread, other.number as usize) {
+        return false;
+    }
+    comes_between(start, assumed, happens, event, byte, writer, other)
+}
+
+/// Whether some write is known to come between a writer and a read of the byte in happens-before. The thread of the writer comes
+/// first.
 fn is_overwritten(
     start: &Candidate,
     assumed: &[Assumption],
@@ -200,15 +311,16 @@ fn is_overwritten(
     requires event { IsEventOf start.now event.now }
     ensures { IsTrue result → IsExcluded start.now assumed.now (key_of event.now) byte writer }
 {
-    let address = u64::from(event.address) + u64::from(byte);
-    let Some(index) = happens.index(event.key()) else {
-        return false;
+    let own = match writer {
+        EventId::Init => event.thread as usize,
+        EventId::At(key) => key.thread as usize,
     };
+    if is_overwritten_by(start, assumed, happens, event, byte, writer, own) {
+        return true;
+    }
     for thread in 0..start.log().threads().len() {
-        let count = happens.count(index, thread);
-        if count > 0
-            && let Some(other) = last_of(start.thread_writes_to(thread, address), count)
-            && comes_between(start, assumed, happens, event, byte, writer, other)
+        if thread != own
+            && is_overwritten_by(start, assumed, happens, event, byte, writer, thread)
         {
             return true;
         }
@@ -216,7 +328,8 @@ fn is_overwritten(
     false
 }
 
-/// Whether a writer isn't that of a byte of a read by what is known to happen before what.
+/// Whether a writer isn't that of a byte of a read by what is known to happen before what. An event that isn't known to happen
+/// before the read isn't known to be overwritten, and one that is doesn't happen after it.
 fn is_out_of_time(
     start: &Candidate,
     assumed: &[Assumption],
@@ -230,14 +343,19 @@ fn is_out_of_time(
     requires event { IsEventOf start.now event.now }
     ensures { IsTrue result → IsExcluded start.now assumed.now (key_of event.now) byte writer }
 {
-    if let EventId::At(key) = writer {
+    if let EventId::At(key) = writer
+        && !is_counted(
+            happens,
+            writer,
+            event.thread as usize,
+            event.number as usize,
+        )
+    {
         let after = Pair {
             first: event.key(),
             second: key,
         };
-        if happens.has(start, assumed, after) {
-            return true;
-        }
+        return happens.has(start, assumed, after);
     }
     is_overwritten(start, assumed, happens, event, byte, writer)
 }
@@ -256,14 +374,17 @@ pub(crate) fn is_excluded(
     requires event { IsEventOf start.now event.now }
     ensures { IsTrue result → IsExcluded start.now assumed.now (key_of event.now) byte writer }
 {
-    is_denied(start, assumed, event.key(), byte, writer)
+    is_denied_byte(start, assumed, happens, event.key(), byte, writer)
+        || is_denied_event(start, assumed, happens, event.key(), byte, writer)
         || is_out_of_time(start, assumed, happens, event, byte, writer)
 }
 
-/// Whether a byte of a read isn't from a writer, whatever happens before what: it doesn't fit the byte, or an assumption says so.
-pub(crate) fn is_never_from(
+/// Whether a byte of a read isn't from a writer by what is known of that byte alone: it doesn't fit the byte, or an assumption
+/// about the writer of the byte says so.
+pub(crate) fn is_unfit(
     start: &Candidate,
     assumed: &[Assumption],
+    happens: &Relation,
     event: &Event,
     byte: u8,
     writer: EventId,
@@ -273,7 +394,8 @@ pub(crate) fn is_never_from(
     ensures { IsTrue result → IsExcluded start.now assumed.now (key_of event.now) byte writer }
 {
     let _log = start.log();
-    !fits(start, event, byte, writer) || is_denied(start, assumed, event.key(), byte, writer)
+    !fits(start, event, byte, writer)
+        || is_denied_byte(start, assumed, happens, event.key(), byte, writer)
 }
 
 /// Whether a byte of a read isn't from a writer: it doesn't fit the byte, or is known not to be its writer.
@@ -291,7 +413,8 @@ pub(crate) fn isnt_from(
     requires byte { byte < 8 }
     ensures { IsTrue result → IsExcluded start.now assumed.now (key_of event.now) byte writer }
 {
-    is_never_from(start, assumed, event, byte, writer)
+    is_unfit(start, assumed, happens, event, byte, writer)
+        || is_denied_event(start, assumed, happens, event.key(), byte, writer)
         || is_out_of_time(start, assumed, happens, event, byte, writer)
 }
 
@@ -330,14 +453,15 @@ fn count_past(happens: &Relation, event: &Event, thread: usize, ids: &[EventId])
     place.saturating_sub(1)
 }
 
-/// Whether two writers that a byte of a read can have are found, each at a first look. Nothing rests on it.
-fn has_two(
+/// Whether a byte of a read can have both of two writers.
+fn can_have(
     start: &Candidate,
     assumed: &[Assumption],
     happens: &Relation,
     event: &Event,
     bytes: &[u8],
     byte: u8,
+    two: Two,
 ) -> bool
     requires rows { AreRows start.now assumed.now happens.now.kind happens.now.rows.items }
     requires kind { happens.now.kind ≡ Happens }
@@ -345,20 +469,50 @@ fn has_two(
     requires bytes { All (IsTearFreeByte start.now assumed.now event.now) bytes.now }
     requires byte { byte < 8 }
 {
+    is_possible(start, assumed, happens, event, bytes, byte, two.first)
+        && is_possible(start, assumed, happens, event, bytes, byte, two.second)
+}
+
+/// Two writers that a byte of a read can have, found at a first look: those that are liked if it can have them, as those of
+/// another byte of the read. Nothing rests on it.
+pub(crate) fn find_two(
+    start: &Candidate,
+    assumed: &[Assumption],
+    happens: &Relation,
+    event: &Event,
+    bytes: &[u8],
+    byte: u8,
+    liked: Option<Two>,
+) -> Option<Two>
+    requires rows { AreRows start.now assumed.now happens.now.kind happens.now.rows.items }
+    requires kind { happens.now.kind ≡ Happens }
+    requires event { IsEventOf start.now event.now }
+    requires bytes { All (IsTearFreeByte start.now assumed.now event.now) bytes.now }
+    requires byte { byte < 8 }
+{
+    if let Some(two) = liked
+        && can_have(start, assumed, happens, event, bytes, byte, two)
+    {
+        return liked;
+    }
     let address = u64::from(event.address) + u64::from(byte);
-    let mut is_one = is_possible(start, assumed, happens, event, bytes, byte, EventId::Init);
+    let mut found = None;
+    if is_possible(start, assumed, happens, event, bytes, byte, EventId::Init) {
+        found = Some(EventId::Init);
+    }
     for thread in 0..start.log().threads().len() {
         let ids = start.thread_writes_to(thread, address);
         for place in count_past(happens, event, thread, ids)..ids.len() {
             if is_possible(start, assumed, happens, event, bytes, byte, ids[place]) {
-                if is_one {
-                    return true;
+                let second = ids[place];
+                if let Some(first) = found {
+                    return Some(Two { first, second });
                 }
-                is_one = true;
+                found = Some(second);
             }
         }
     }
-    false
+    None
 }
 
 /// Which writers a byte of a read can have, beside its tear-free bytes.
@@ -379,16 +533,13 @@ pub(crate) fn choice_of(
     ensures { IfOk result (IsChoice start.now assumed.now event.now byte) }
 {
     let _log = start.log();
-    if has_two(start, assumed, happens, event, bytes, byte) {
-        return Ok(Choice::Several);
-    }
     let fit = fitting_ids(alloc, start, event, byte)?;
     let mut found = None;
     for writer in fit.as_slice() {
-        if would_tear(start, assumed, happens, event, bytes, *writer) {
+        if is_excluded(start, assumed, happens, event, byte, *writer) {
             continue;
         }
-        if is_excluded(start, assumed, happens, event, byte, *writer) {
+        if would_tear(start, assumed, happens, event, bytes, *writer) {
             continue;
         }
         if found.is_some() {

@@ -17,7 +17,8 @@ const MAX_STEPS: u32 = 1 << 24;
 impl<'a> Likely<'a> {
     /// Adds what comes before an access to what comes before another, and notes that one if that is new.
     fn pass(&mut self, from: usize, into: usize, work: &mut Vec<usize>) -> Result<(), Halt> {
-        if raise(self.stands.as_mut_slice(), from, into) {
+        let threads = self.cells.threads();
+        if raise(self.stands.as_mut_slice(), from, into, threads) {
             if self.stands(into, into) {
                 return Err(Halt::Contradiction);
             }

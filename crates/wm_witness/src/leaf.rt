@@ -4,7 +4,7 @@ ghost use Rattle.wm_witness.specs.Choice.{IsEventOf};
 ghost use Rattle.wm_witness.specs.Rules.{IsNode};
 
 use crate::assumption::Assumption;
-use crate::choice::{event_of, fitting_ids, is_excluded, isnt_from};
+use crate::choice::{event_of, fitting_ids, isnt_from};
 use crate::node::Node;
 use crate::relation::Pair;
 use crate::rules::can_synchronize;
@@ -39,6 +39,21 @@ fn is_late(
     can_synchronize(start, pair) && !node.stands_open(start, assumed, back)
 }
 
+/// Whether an assumption is that a read takes a byte from an event.
+fn is_assumed(assumed: &[Assumption], node: &Node, reader: EventKey, writer: EventKey) -> bool {
+    let mut next = node.happens.first_of_events(reader);
+    for _ in 0..assumed.len() {
+        let Some(place) = next else {
+            return false;
+        };
+        if assumed.get(place) == Some(&Assumption::Takes(reader, writer)) {
+            return true;
+        }
+        next = node.happens.named.after(place);
+    }
+    false
+}
+
 /// How good a writer is for a read: worst one that would have to come after it, better one that is known to come before
 /// it, best one that an assumption names.
 fn merit(
@@ -53,10 +68,8 @@ fn merit(
     let EventId::At(key) = writer else {
         return 2;
     };
-    for assumption in assumed {
-        if *assumption == Assumption::Takes(event.key(), key) {
-            return 8;
-        }
+    if is_assumed(assumed, node, event.key(), key) {
+        return 8;
     }
     if is_late(start, assumed, node, event.key(), writer) {
         return 0;
@@ -80,27 +93,33 @@ fn is_one_of(start: &Candidate, event: &Event, writer: EventId) -> bool {
     is_tear_free(event) && is_like(start, event, writer)
 }
 
-/// The best writer of a byte of a read, of those that aren't known to be another's and that any number of which can be
-/// writers of the read; None if there is none.
-fn best_other(
-    alloc: Global,
+/// The best of the writers of a byte so far.
+#[derive(Clone, Copy)]
+struct Best {
+    writer: Option<EventId>,
+    merit: u32,
+}
+
+/// The best writer of a byte of a read so far, and of some ids: of those that aren't known to be another's and that any number
+/// of which can be writers of the read.
+fn best_of(
     start: &Candidate,
     assumed: &[Assumption],
     node: &Node,
     event: &Event,
     byte: u8,
     liked: Option<EventId>,
-) -> Result<Option<EventId>, AllocError>
+    ids: &[EventId],
+    last: Best,
+) -> Best
     requires node { IsNode start.now assumed.now node.now }
     requires event { IsEventOf start.now event.now }
     requires byte { byte < 8 }
 {
-    let fit = fitting_ids(alloc, start, event, byte)?;
-    let mut best = None;
-    let mut best_merit = 0;
-    for id in fit.as_slice() {
+    let mut best = last;
+    for id in ids {
         if is_one_of(start, event, *id)
-            || is_excluded(start, assumed, &node.happens, event, byte, *id)
+            || isnt_from(start, assumed, &node.happens, event, byte, *id)
         {
             continue;
         }
@@ -109,24 +128,53 @@ fn best_other(
         } else {
             merit(start, assumed, node, event, *id)
         };
-        if merit >= best_merit {
-            best = Some(*id);
-            best_merit = merit;
+        if merit >= best.merit {
+            best = Best {
+                writer: Some(*id),
+                merit,
+            };
         }
     }
-    Ok(best)
+    best
+}
+
+/// The best writer of a byte of a read, of those that aren't known to be another's and that any number of which can be
+/// writers of the read; None if there is none.
+fn best_other(
+    start: &Candidate,
+    assumed: &[Assumption],
+    node: &Node,
+    event: &Event,
+    byte: u8,
+    liked: Option<EventId>,
+) -> Option<EventId>
+    requires node { IsNode start.now assumed.now node.now }
+    requires event { IsEventOf start.now event.now }
+    requires byte { byte < 8 }
+{
+    let address = u64::from(event.address) + u64::from(byte);
+    let none = Best {
+        writer: None,
+        merit: 0,
+    };
+    let init = [EventId::Init];
+    let mut best = best_of(start, assumed, node, event, byte, liked, &init, none);
+    for thread in 0..start.log().threads().len() {
+        let ids = start.thread_writes_to(thread, address);
+        best = best_of(start, assumed, node, event, byte, liked, ids, best);
+    }
+    best.writer
 }
 
 /// For each byte of a read the writer that is known, otherwise the best of those any number of which can be writers of the
 /// read.
 fn other_writers(
-    alloc: Global,
     start: &Candidate,
     assumed: &[Assumption],
     node: &Node,
     index: usize,
     event: &Event,
-) -> Result<Bytes, AllocError>
+) -> Bytes
     requires node { IsNode start.now assumed.now node.now }
     requires event { IsEventOf start.now event.now }
 {
@@ -140,7 +188,7 @@ fn other_writers(
     for byte in 0..event.width.bytes() {
         let writer = match node.writer(index, byte) {
             Some(writer) => Some(writer),
-            None => best_other(alloc, start, assumed, node, event, byte, liked)?,
+            None => best_other(start, assumed, node, event, byte, liked),
         };
         if (byte as usize) < 8 {
             bytes[byte as usize] = writer;
@@ -149,7 +197,7 @@ fn other_writers(
             liked = writer;
         }
     }
-    Ok(bytes)
+    bytes
 }
 
 /// Whether a byte of a read can be from a writer, as far as it is known.
@@ -172,6 +220,14 @@ fn can_be_from(
     }
 }
 
+/// Whether there is a writer of a byte of a read other than the one of which it has one at most.
+fn has_other(start: &Candidate, event: &Event, others: &Bytes, byte: u8) -> bool {
+    match others.get(byte as usize) {
+        Some(Some(other)) => !is_one_of(start, event, *other),
+        _ => false,
+    }
+}
+
 /// Whether one writer, of those of which a read has one at most, can give each byte for which there is no other.
 fn is_enough(
     start: &Candidate,
@@ -186,11 +242,9 @@ fn is_enough(
     requires event { IsEventOf start.now event.now }
 {
     for byte in 0..event.width.bytes() {
-        let is_other = match others.get(byte as usize) {
-            Some(Some(other)) => !is_one_of(start, event, *other),
-            _ => false,
-        };
-        if !is_other && !can_be_from(start, assumed, node, index, event, byte, writer) {
+        if !has_other(start, event, others, byte)
+            && !can_be_from(start, assumed, node, index, event, byte, writer)
+        {
             return false;
         }
     }
@@ -234,8 +288,9 @@ fn best_one(
         let merit = merit(start, assumed, node, event, *id);
         if merit >= best_merit
             && is_one_of(start, event, *id)
-            && can_be_from(start, assumed, node, index, event, byte, *id)
             && is_enough(start, assumed, node, index, event, others, *id)
+            && (!has_other(start, event, others, byte)
+                || can_be_from(start, assumed, node, index, event, byte, *id))
         {
             best = Some(*id);
             best_merit = merit;
@@ -261,7 +316,7 @@ pub(crate) fn likely_writers(
     if !event.reads() {
         return Ok([None; 8]);
     }
-    let mut bytes = other_writers(alloc, start, assumed, node, index, event)?;
+    let mut bytes = other_writers(start, assumed, node, index, event);
     if !is_tear_free(event) || node.is_known(event, index) {
         return Ok(bytes);
     }
@@ -269,7 +324,10 @@ pub(crate) fn likely_writers(
         return Ok(bytes);
     };
     for byte in 0..event.width.bytes() {
-        if (byte as usize) < 8 && can_be_from(start, assumed, node, index, event, byte, one) {
+        if (byte as usize) < 8
+            && (!has_other(start, event, &bytes, byte)
+                || can_be_from(start, assumed, node, index, event, byte, one))
+        {
             bytes[byte as usize] = Some(one);
         }
     }

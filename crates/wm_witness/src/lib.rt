@@ -4,6 +4,7 @@
 mod answer;
 mod arcs;
 mod assumption;
+mod atomic;
 mod buckets;
 mod cells;
 mod choice;
@@ -16,6 +17,7 @@ mod halt;
 mod leaf;
 mod likely;
 mod links;
+mod named;
 mod new_split;
 mod node;
 mod offers;

@@ -65,17 +65,17 @@ impl Options {
     }
 }
 
-/// Adds what comes before an access, and the access itself, to what comes before another. Whether that is new.
-pub(crate) fn raise(rows: &mut [Row], from: usize, into: usize) -> bool {
+/// Adds what comes before an access of some threads, and the access itself, to what comes before another. Whether that is new.
+pub(crate) fn raise(rows: &mut [Row], from: usize, into: usize, threads: usize) -> bool {
     if from >= rows.len() || into >= rows.len() {
         return false;
     }
     let row = rows[into];
     let other = rows[from];
-    if row.includes(&other) {
+    if row.includes(&other, threads) {
         return false;
     }
-    rows[into] = row.joined(&other);
+    rows[into] = row.joined(&other, threads);
     true
 }
 
@@ -192,9 +192,10 @@ impl<'a> Likely<'a> {
         waiting: &mut [usize],
         ready: &mut Vec<usize>,
     ) -> Result<(), AllocError> {
+        let threads = self.cells.threads();
         if let Some(next) = self.cells.next(index) {
-            raise(self.happens.as_mut_slice(), index, next);
-            raise(self.stands.as_mut_slice(), index, next);
+            raise(self.happens.as_mut_slice(), index, next, threads);
+            raise(self.stands.as_mut_slice(), index, next, threads);
             release(waiting, ready, next)?;
         }
         let mut place = self.joins.first(index);
@@ -202,8 +203,8 @@ impl<'a> Likely<'a> {
             let Some(arc) = self.joins.get(place) else {
                 break;
             };
-            raise(self.happens.as_mut_slice(), index, arc.to);
-            raise(self.stands.as_mut_slice(), index, arc.to);
+            raise(self.happens.as_mut_slice(), index, arc.to, threads);
+            raise(self.stands.as_mut_slice(), index, arc.to, threads);
             release(waiting, ready, arc.to)?;
             place = arc.next;
         }
@@ -212,7 +213,7 @@ impl<'a> Likely<'a> {
             let Some(arc) = self.orders.get(place) else {
                 break;
             };
-            raise(self.stands.as_mut_slice(), index, arc.to);
+            raise(self.stands.as_mut_slice(), index, arc.to, threads);
             release(waiting, ready, arc.to)?;
             place = arc.next;
         }

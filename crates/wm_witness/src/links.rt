@@ -34,7 +34,7 @@ impl Links {
         pairs: &[Pair],
     ) -> Result<Self, AllocError> {
         let mut first: Vec<Option<usize>> = vec![in alloc; None; relation.rows.len()]?;
-        let mut next = Vec::new(alloc);
+        let mut next = Vec::with_capacity(alloc, pairs.len())?;
         for (place, pair) in pairs.iter().enumerate() {
             match relation.index(pair.second) {
                 Some(index) => {
@@ -47,7 +47,7 @@ impl Links {
         let mut links = Links {
             first,
             next,
-            order: Vec::new(alloc),
+            order: Vec::with_capacity(alloc, relation.rows.len())?,
             is_sorted: true,
         };
         links.schedule(alloc, relation, pairs)?;

@@ -12,7 +12,9 @@ ghost use Rattle.wm_witness.specs.declared.choice.Choice.TheVariants.{Only};
 ghost use Rattle.wm_witness.specs.declared.relation.Kind.TheVariants.{Stands};
 
 use crate::assumption::Assumption;
-use crate::choice::{Choice, Taken, choice_of, event_of, is_refuted};
+use crate::atomic::{first_after, first_past, last_before};
+use crate::choice::{Choice, Taken, choice_of, event_of, find_two, is_refuted};
+use crate::named::Named;
 use crate::offers::Offers;
 use crate::relation::{Kind, Pair, Relation};
 use crate::rules::{
@@ -28,7 +30,7 @@ use wm_event::{Candidate, Event, EventId, EventKey, Range};
 const MAX_ROUNDS: u32 = 64;
 
 /// How the bytes of a read are looked at.
-#[derive(Clone, Copy)]
+#[derive(Clone, Copy, PartialEq, Eq)]
 enum View {
     /// Each byte alone.
     Alone,
@@ -69,84 +71,13 @@ fn note(
     }
 }
 
-/// The last atomic write of a range by a thread that is known to stand before an event.
-fn last_before(
-    start: &Candidate,
-    relation: &Relation,
-    range: Range,
-    thread: usize,
-    event: EventKey,
-) -> Option<EventKey> {
-    if thread >= start.log().threads().len() {
-        return None;
-    }
-    let count = relation.count(relation.index(event)?, thread) as usize;
-    if count == 0 {
-        return None;
-    }
-    let writes = start.thread_atomic_writes(thread, range);
-    let place = writes.partition_point(|write| write.place < count);
-    if place == 0 {
-        return None;
-    }
-    key_at(thread, writes.get(place - 1)?.place)
-}
-
-/// The first atomic write of a range by a thread that is known to stand after an event.
-fn first_after(
-    start: &Candidate,
-    relation: &Relation,
-    range: Range,
-    thread: usize,
-    event: EventKey,
-) -> Option<EventKey> {
-    if thread >= start.log().threads().len() || !relation.ends_after(thread, event) {
-        return None;
-    }
-    let writes = start.thread_atomic_writes(thread, range);
-    let place = if thread == event.thread as usize {
-        let number = event.number as usize;
-        writes.partition_point(|write| write.place <= number)
-    } else {
-        writes.partition_point(|write| !relation.counts(thread, write.place, event))
-    };
-    key_at(thread, writes.get(place)?.place)
-}
-
-/// The first atomic write of a range by a thread that is known to happen after a writer.
-fn first_past(
-    start: &Candidate,
-    relation: &Relation,
-    range: Range,
-    thread: usize,
-    writer: EventId,
-) -> Option<EventKey> {
-    if thread >= start.log().threads().len() {
-        return None;
-    }
-    match writer {
-        EventId::At(key) => first_after(start, relation, range, thread, key),
-        EventId::Init => {
-            let writes = start.thread_atomic_writes(thread, range);
-            key_at(thread, writes.first()?.place)
-        }
-    }
-}
-
-/// The name of an event, by its thread and its number there.
-fn key_at(thread: usize, number: usize) -> Option<EventKey> {
-    Some(EventKey {
-        thread: u32::try_from(thread).ok()?,
-        number: u32::try_from(number).ok()?,
-    })
-}
-
 impl Node {
     /// The node at which nothing is known.
     fn new(alloc: Global, start: &Candidate, assumed: &[Assumption]) -> Result<Self, AllocError>
         ensures { IfOk result (IsNode start.now assumed.now) }
     {
-        let happens = Relation::new(alloc, start, Kind::Happens)?;
+        let mut happens = Relation::new(alloc, start, Kind::Happens)?;
+        happens.named = Named::of(alloc, &happens, assumed)?;
         let stands = Relation::new(alloc, start, Kind::Stands)?;
         let places = vec![in alloc; [None; 8]; happens.rows.len()]?;
         Ok(Node {
@@ -486,7 +417,9 @@ impl Node {
         }
     }
 
-    /// Looks at the bytes of a read, the event of a row, whose writers aren't known. Whether one has none.
+    /// Looks at the bytes of a read, the event of a row, whose writers aren't known. Whether one has none. Each was looked at
+    /// alone before it is looked at with others, so beside no tear-free byte nothing is new. After a byte without two writers
+    /// none is looked at for two.
     fn choose_bytes(
         &mut self,
         alloc: Global,
@@ -503,10 +436,21 @@ impl Node {
         ensures closed { IfOk result (λ is_closed. IsTrue is_closed → IsClosed start.now assumed.now) }
     {
         let bytes = self.bytes_beside(alloc, start, assumed, event, view)?;
+        if bytes.is_empty() && view == View::Together {
+            return Ok(false);
+        }
+        let bytes = bytes.as_slice();
+        let mut two = None;
+        let mut is_only = false;
         for byte in 0..event.width.bytes() {
-            if self.writer(index, byte).is_none()
-                && self.choose_byte(alloc, start, assumed, event, bytes.as_slice(), byte)?
-            {
+            if self.writer(index, byte).is_some() {
+                continue;
+            }
+            if !is_only {
+                two = find_two(start, assumed, &self.happens, event, bytes, byte, two);
+            }
+            is_only = two.is_none();
+            if is_only && self.choose_byte(alloc, start, assumed, event, bytes, byte)? {
                 return Ok(true);
             }
         }

@@ -7,6 +7,7 @@ ghost use Rattle.wm_witness.specs.declared.row.Row.{Row};
 
 use crate::assumption::Assumption;
 use crate::links::Links;
+use crate::named::Named;
 use crate::row::Row;
 use std::alloc::{AllocError, Global};
 use wm_event::{Candidate, EventId, EventKey};
@@ -36,6 +37,8 @@ pub(crate) struct Relation {
     pub rows: Vec<Row>,
     /// Where the events of each thread begin.
     pub starts: Vec<usize>,
+    /// The assumptions about each event, if they were noted. Nothing rests on them.
+    pub named: Named,
 }
 
 /// The row of an event before which nothing is known to come; None if there is no such event.
@@ -83,7 +86,28 @@ impl Relation {
                 }
             }
         }
-        Ok(Relation { kind, rows, starts })
+        Ok(Relation {
+            kind,
+            rows,
+            starts,
+            named: Named::none(alloc),
+        })
+    }
+
+    /// Where the row of an event is, if there is such an event; otherwise any place. Nothing rests on it.
+    fn place(&self, key: EventKey) -> Option<usize> {
+        let start = *self.starts.get(key.thread as usize)?;
+        Some(start.saturating_add(key.number as usize))
+    }
+
+    /// The place of an assumption about the writer of a byte of a read.
+    pub(crate) fn first_of_bytes(&self, reader: EventKey) -> Option<usize> {
+        self.named.first_of_bytes(self.place(reader)?)
+    }
+
+    /// The place of an assumption that a read takes a byte from an event, or none.
+    pub(crate) fn first_of_events(&self, reader: EventKey) -> Option<usize> {
+        self.named.first_of_events(self.place(reader)?)
     }
 
     /// How many events of a thread are known to come before the event of a row.
@@ -94,6 +118,14 @@ impl Relation {
                 None => 0,
                 Some(count) => *count,
             },
+        }
+    }
+
+    /// How many events of a thread are known to come before an event.
+    pub(crate) fn count_before(&self, event: EventKey, thread: usize) -> u32 {
+        match self.place(event) {
+            Some(index) => self.count(index, thread),
+            None => 0,
         }
     }
 
@@ -144,10 +176,11 @@ impl Relation {
     {
         let row = self.rows[into];
         let other = self.rows[from];
-        if row.includes(&other) {
+        let threads = self.starts.len();
+        if row.includes(&other, threads) {
             return false;
         }
-        self.rows[into] = row.joined(&other);
+        self.rows[into] = row.joined(&other, threads);
         true
     }
 

@@ -43,9 +43,9 @@ impl Row {
         event.number < self.count(event.thread)
     }
 
-    /// Whether it counts all that another counts, and the event of that one. Nothing rests on it.
-    pub(crate) fn includes(&self, other: &Row) -> bool {
-        for lane in 0..MAX_THREADS {
+    /// Whether it counts all that another counts of the first threads, and the event of that one. Nothing rests on it.
+    pub(crate) fn includes(&self, other: &Row, threads: usize) -> bool {
+        for lane in 0..threads.min(MAX_THREADS) {
             if self.before[lane] < other.before[lane] {
                 return false;
             }
@@ -53,14 +53,15 @@ impl Row {
         self.covers(other.key)
     }
 
-    /// The row that counts also what another counts, and the event of that one with those before it in its thread.
-    pub(crate) fn joined(&self, other: &Row) -> Self
+    /// The row that counts also what another counts of the first threads, and the event of that one with those before it in its
+    /// thread.
+    pub(crate) fn joined(&self, other: &Row, threads: usize) -> Self
         ensures key { result.key ≡ self.now.key }
         ensures covers { (a : EventKey) → Covers result a →
             Covers self.now a ⊎ (Covers other.now a ⊎ ((a.thread ≡ other.now.key.thread) × (a.number ≤ other.now.key.number))) }
     {
         let mut before = self.before;
-        for lane in 0..MAX_THREADS {
+        for lane in 0..threads.min(MAX_THREADS) {
             if before[lane] < other.before[lane] {
                 before[lane] = other.before[lane];
             }

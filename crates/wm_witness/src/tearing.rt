@@ -85,6 +85,9 @@ fn is_tear_free_byte(
     ensures { IfOk result (λ is_so. IsTrue is_so → IsTearFreeByte start.now assumed.now event.now byte) }
 {
     let _log = start.log();
+    if !isnt_from(start, assumed, happens, event, byte, EventId::Init) {
+        return Ok(false);
+    }
     let fit = fitting_ids(alloc, start, event, byte)?;
     for writer in fit.as_slice() {
         if is_like(start, event, *writer) {
@@ -137,16 +140,30 @@ fn takes_other(start: &Candidate, event: &Event, writer: EventId, assumption: &A
 }
 
 /// Whether one of the assumptions says so.
-fn takes_another(start: &Candidate, assumed: &[Assumption], event: &Event, writer: EventId) -> bool
+fn takes_another(
+    start: &Candidate,
+    assumed: &[Assumption],
+    happens: &Relation,
+    event: &Event,
+    writer: EventId,
+) -> bool
     requires event { IsEventOf start.now event.now }
     requires free { IsTearFree event.now }
     requires like { IsTearFreeLike (execution start.now) event.now writer }
     ensures { IsTrue result → IsNoWriter start.now assumed.now (key_of event.now) writer }
 {
-    for assumption in assumed {
-        if takes_other(start, event, writer, assumption) {
+    let mut next = happens.first_of_events(event.key());
+    for _ in 0..assumed.len() {
+        let Some(place) = next else {
+            return false;
+        };
+        if place >= assumed.len() {
+            return false;
+        }
+        if takes_other(start, event, writer, &assumed[place]) {
             return true;
         }
+        next = happens.named.after(place);
     }
     false
 }
@@ -173,7 +190,7 @@ pub(crate) fn would_tear(
     if !is_like(start, event, writer) {
         return false;
     }
-    if takes_another(start, assumed, event, writer) {
+    if takes_another(start, assumed, happens, event, writer) {
         return true;
     }
     for byte in bytes {

@@ -1,18 +1,19 @@
 //! From which event a tear-free read takes all of its bytes.
 ghost use Rattle.std.specs.Prelude.{◌≡◌, ◌<◌, ℕ, IsTrue};
-ghost use Rattle.wm_event.specs.Event.{reads};
+ghost use Rattle.wm_event.specs.Event.{key_of, reads};
 ghost use Rattle.wm_event.specs.Rules.{IsTearFree};
+ghost use Rattle.wm_event.specs.declared.event.EventId.TheVariants.{Init};
 ghost use Rattle.wm_event.specs.Shape.{read_width};
-ghost use Rattle.wm_witness.specs.Choice.{IsChoice, IsEventOf, IsNeverFromInit, IsOutOfRead};
+ghost use Rattle.wm_witness.specs.Choice.{IsChoice, IsEventOf, IsExcluded, IsNeverFromInit, IsOutOfRead};
 ghost use Rattle.wm_witness.specs.Offers.{AreOffers, IsWhole};
 ghost use Rattle.wm_witness.specs.Relations.{AreRows};
 ghost use Rattle.wm_witness.specs.declared.relation.Kind.TheVariants.{Happens};
 
 use crate::assumption::Assumption;
-use crate::choice::{Choice, is_never_from, isnt_from};
+use crate::choice::{Choice, comes_between, is_unfit, isnt_from, write_before};
 use crate::offers::Offers;
 use crate::relation::Relation;
-use wm_event::{Candidate, Event, EventId};
+use wm_event::{Candidate, Event, EventId, EventKey};
 
 /// Whether an event reads some byte.
 pub(crate) fn reads_bytes(event: &Event) -> bool
@@ -22,6 +23,29 @@ pub(crate) fn reads_bytes(event: &Event) -> bool
         return false;
     }
     event.width.bytes() > 0
+}
+
+/// Whether a byte of a read isn't from Init: the write that was found before the read comes between, or for another reason.
+fn isnt_from_init(
+    start: &Candidate,
+    assumed: &[Assumption],
+    happens: &Relation,
+    event: &Event,
+    byte: u8,
+    other: Option<EventKey>,
+) -> bool
+    requires rows { AreRows start.now assumed.now happens.now.kind happens.now.rows.items }
+    requires kind { happens.now.kind ≡ Happens }
+    requires event { IsEventOf start.now event.now }
+    requires byte { byte < 8 }
+    ensures { IsTrue result → IsExcluded start.now assumed.now (key_of event.now) byte Init }
+{
+    if let Some(other) = other
+        && comes_between(start, assumed, happens, event, byte, EventId::Init, other)
+    {
+        return true;
+    }
+    isnt_from(start, assumed, happens, event, byte, EventId::Init)
 }
 
 /// Whether no byte of a read is from Init.
@@ -36,16 +60,17 @@ pub(crate) fn is_never_from_init(
     requires event { IsEventOf start.now event.now }
     ensures { IsTrue result → IsNeverFromInit start.now assumed.now event.now }
 {
+    let other = write_before(start, happens, event);
     for byte in 0..event.width.bytes() {
-        if !isnt_from(start, assumed, happens, event, byte, EventId::Init) {
+        if !isnt_from_init(start, assumed, happens, event, byte, other) {
             return false;
         }
     }
     true
 }
 
-/// Whether some byte of a read isn't from a writer. What happens before what is only looked at for its first byte: it says the
-/// same of all bytes of a range that is written only as a whole.
+/// Whether some byte of a read isn't from a writer. Only for its first byte it is looked at what happens before what, and what is
+/// assumed of whole events: it says the same of all bytes of a range that is written only as a whole.
 fn is_out(
     start: &Candidate,
     assumed: &[Assumption],
@@ -63,7 +88,7 @@ fn is_out(
         let is_not = if byte == 0 {
             isnt_from(start, assumed, happens, event, byte, writer)
         } else {
-            is_never_from(start, assumed, event, byte, writer)
+            is_unfit(start, assumed, happens, event, byte, writer)
         };
         if is_not {
             return true;

@@ -1,3 +1,4 @@
+use Rattle.std.proofs.Common.{arith}
 use Rattle.wm_event.specs.declared.event.EventKey.{EventKey}
 use Rattle.wm_witness.specs.declared.assumption.Assumption.{Assumption}
 use Rattle.wm_witness.specs.declared.assumption.Assumption.TheVariants.{Takes}
@@ -11,4 +12,5 @@ returns-then-takes_other c = λ t.
     let e = c.args.event.now in
     let zero : EventKey = record { thread = 0; number = 0 } in
     let none : Assumption = Takes zero zero in
-    other-assumed run assumed e c.requires.event c.requires.free c.args.writer c.requires.like c.loop-assumption.assumption-index none c.loop-assumption-test.true (c.if-takes_other.ensures t)
+    let inside = c.if-place-assumed in
+    other-assumed run assumed e c.requires.event c.requires.free c.args.writer c.requires.like c.in-Some.place none (omega (arith, inside)) (c.if-takes_other.ensures t)

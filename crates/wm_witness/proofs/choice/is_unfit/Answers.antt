@@ -1,7 +1,7 @@
 use Rattle.std.proofs.Common.{subst}
 use Rattle.std.specs.Prelude.{Bool, IsTrue, not}
 use Rattle.wm_witness.proofs.TearingLaw.{unfit}
-use Rattle.wm_witness.proofs.choice.is_never_from.Goals as goal
+use Rattle.wm_witness.proofs.choice.is_unfit.Goals as goal
 
 pub returns-then-not-fits : goal.returns-then-not-fits
 returns-then-not-fits c = λ t.
