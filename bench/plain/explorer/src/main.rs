@@ -1,8 +1,10 @@
-//! The outcomes of a module: `explorer MODULE EVENTS START..` prints what `wmlab explore` does, but for the number of graphs.
+//! The outcomes of a module: `explorer [--no-lazy] MODULE EVENTS START..` prints what `wmlab explore` does, but for the
+//! number of graphs.
 //!
 //! A graph has events with the writers of each byte that was read, and is extended by one event of a thread at a time:
 //! first by writes, then by each choice of the writers of a read. A read whose choices were tried waits for a further
-//! write. A turn that only reads and leaves a thread as it was is not taken again.
+//! write; without `--no-lazy` only if another thread was seen to make one. A turn that only reads and leaves a thread as it
+//! was is not taken again.
 mod accesses;
 mod body;
 mod bytes;
@@ -17,7 +19,7 @@ mod state;
 mod thread;
 
 use code::Module;
-use search::Search;
+use search::{Marks, Search};
 use thread::Thread;
 
 /// The search recurses as deep as there are events and marks.
@@ -33,9 +35,13 @@ fn started(module: &Module, word: &str) -> Thread {
 }
 
 fn run(words: &[String]) {
+    let (marks, words) = match words.strip_prefix(&["--no-lazy".to_string()]) {
+        Some(rest) => (Marks::Always, rest),
+        None => (Marks::Lazy, words),
+    };
     let module = decode::module(&std::fs::read(&words[0]).expect("a module"));
     let most = words[1].parse().expect("a number of events");
-    let mut search = Search::new(&module, most);
+    let mut search = Search::new(&module, most, marks);
     search.start(
         words[2..]
             .iter()

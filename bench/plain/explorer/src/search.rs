@@ -16,9 +16,18 @@ struct Tried {
     is_raced: bool,
 }
 
+/// When a read whose choices were tried waits for a further write.
+#[derive(Clone, Copy, PartialEq, Eq)]
+pub enum Marks {
+    /// Only if another thread was seen to write what it reads.
+    Lazy,
+    Always,
+}
+
 pub struct Search<'m> {
     module: &'m Module,
     most: usize,
+    marks: Marks,
     tried: Vec<Tried>,
     pub outcomes: BTreeSet<String>,
     pub graphs: u64,
@@ -29,10 +38,11 @@ pub struct Search<'m> {
 
 impl<'m> Search<'m> {
     /// Of at most some events of each thread.
-    pub fn new(module: &'m Module, most: usize) -> Self {
+    pub fn new(module: &'m Module, most: usize, marks: Marks) -> Self {
         Search {
             module,
             most,
+            marks,
             tried: Vec::new(),
             outcomes: BTreeSet::new(),
             graphs: 0,
@@ -148,7 +158,8 @@ impl<'m> Search<'m> {
                 }
             }
         }
-        self.tried.pop().expect("the read").is_raced || is_idle || !goes_on
+        let is_raced = self.tried.pop().expect("the read").is_raced;
+        self.marks == Marks::Always || is_raced || is_idle || !goes_on
     }
 
     /// A thread that reads next, with choices: one without a mark, or with new choices.
