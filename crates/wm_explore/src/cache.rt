@@ -3,7 +3,7 @@ ghost use Rattle.std.specs.Prelude.{◌≡◌, List, Some, true, IfOk, IfSome, O
 ghost use Rattle.wm_ast.specs.declared.module.Module.{Module};
 ghost use Rattle.wm_event.specs.Limits.{max_steps};
 ghost use Rattle.wm_event.specs.declared.log.Start.{Start};
-ghost use Rattle.wm_explore.specs.Cache.{Recalls};
+ghost use Rattle.wm_explore.specs.Cache.{IsEntryOf, Recalls, RecallsOf};
 ghost use Rattle.wm_explore.specs.Moved.{IsMovedBy};
 ghost use Rattle.wm_replay.specs.Positions.{HasFollowed, IsFollowed};
 
@@ -27,14 +27,14 @@ const MOST_EVENTS: usize = 256;
 struct Entry<'m> {
     events: List<Event>,
     moved: Moved,
-    /// The thread after these events, until it is taken to go on from there.
-    thread: Option<Followed<'m>>,
+    /// The thread after these events.
+    followed: Followed<'m>,
 }
 
 /// What threads were seen to do after some events. An entry gives way to a later one with the same place.
 #[derive(Drop)]
 pub(crate) struct Cache<'m> {
-    entries: Vec<Option<Entry<'m>>>,
+    entries: Vec<Option<Box<Entry<'m>>>>,
 }
 
 /// Whether these are the same events, in the same order.
@@ -89,49 +89,45 @@ impl<'m> Cache<'m> {
         Ok(Cache { entries })
     }
 
-    /// What a thread does that has made the events of its log, if that was kept.
-    pub(crate) fn find(&self, number: usize, stated: &ThreadLog) -> Option<Moved>
-        ensures { (m : Module) (starts : List Start) → Recalls m starts self.now →
-            slice_get starts number ≡ Some stated.now.start → IfSome result (IsMovedBy m number stated.now) }
+    /// The entry of a thread with these events, if it was kept.
+    fn entry_of(&self, number: usize, events: &[Event]) -> Option<&Box<Entry<'m>>>
+        ensures { IfSome result (λ entry. IsEntryOf number events.now self.now entry.now) }
     {
-        let events = stated.events.as_slice();
         let Some(Some(entry)) = self.entries.get(place_of(number, events)) else {
             return None;
         };
         if !entry.is_of(number, events) {
             return None;
         }
+        Some(entry)
+    }
+
+    /// What a thread does that has made the events of its log, if that was kept.
+    pub(crate) fn find(&self, number: usize, stated: &ThreadLog) -> Option<Moved>
+        ensures { (m : Module) → RecallsOf m number stated.now.start self.now → IfSome result (IsMovedBy m number stated.now) }
+    {
+        let entry = self.entry_of(number, stated.events.as_slice())?;
         Some(entry.moved)
     }
 
-    /// Takes the thread out that has made the events of its log but the last, if it was kept and nobody has taken it.
-    pub(crate) fn take_before(&mut self, number: usize, stated: &ThreadLog) -> Option<Followed<'m>>
-        ensures taken { (m : Module) (starts : List Start) → Recalls m starts self.old →
-            slice_get starts number ≡ Some stated.now.start → IfSome result (HasFollowed m number stated.now max_steps) }
-        ensures recalls { (m : Module) (starts : List Start) → Recalls m starts self.old → Recalls m starts self.new }
+    /// A copy of the thread that has made the events of its log but the last, if it was kept.
+    pub(crate) fn before(
+        &self,
+        alloc: Global,
+        number: usize,
+        stated: &ThreadLog,
+    ) -> Result<Option<Followed<'m>>, AllocError>
+        ensures { IfOk result (λ found. (m : Module) → RecallsOf m number stated.now.start self.now →
+            IfSome found (HasFollowed m number stated.now max_steps)) }
     {
         let events = stated.events.as_slice();
         if events.is_empty() {
-            return None;
+            return Ok(None);
         }
-        let first = &events[..events.len() - 1];
-        let slot = self.entries.get_mut(place_of(number, first))?;
-        let entry = slot.take()?;
-        if !entry.is_of(number, first) {
-            *slot = Some(entry);
-            return None;
+        match self.entry_of(number, &events[..events.len() - 1]) {
+            None => Ok(None),
+            Some(entry) => Ok(Some(entry.followed.copy(alloc)?)),
         }
-        let Entry {
-            events: kept,
-            moved,
-            thread,
-        } = entry;
-        *slot = Some(Entry {
-            events: kept,
-            moved,
-            thread: None,
-        });
-        thread
     }
 
     /// Keeps what a thread does that has made the events of its log, by which it was run, if there are at most
@@ -151,13 +147,16 @@ impl<'m> Cache<'m> {
         if events.len() > MOST_EVENTS {
             return Ok(());
         }
-        let copy = List::from_vec(events.to_vec(alloc)?);
-        if let Some(slot) = self.entries.get_mut(place_of(moved.number, events)) {
-            *slot = Some(Entry {
-                events: copy,
+        let entry = Box::new(
+            alloc,
+            Entry {
+                events: List::from_vec(events.to_vec(alloc)?),
                 moved: *moved,
-                thread: Some(followed),
-            });
+                followed,
+            },
+        )?;
+        if let Some(slot) = self.entries.get_mut(place_of(moved.number, events)) {
+            *slot = Some(entry);
         }
         Ok(())
     }

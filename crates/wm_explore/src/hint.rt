@@ -71,7 +71,7 @@ fn synchronizes(writer: &Event, reader: &Event) -> bool {
 }
 
 /// Whether an event writes a byte that another one accesses.
-fn writes_in(writer: &Event, reader: &Event) -> bool {
+pub(crate) fn writes_in(writer: &Event, reader: &Event) -> bool {
     let (first, second) = (u64::from(writer.address), u64::from(reader.address));
     writer.writes()
         && first < second + u64::from(reader.width.bytes())
@@ -79,7 +79,7 @@ fn writes_in(writer: &Event, reader: &Event) -> bool {
 }
 
 /// The write that leaves the bytes that an event reads.
-fn write_of(reader: &Event) -> Event {
+pub(crate) fn write_of(reader: &Event) -> Event {
     Event {
         kind: EventKind::Write,
         written: reader.read,
@@ -141,7 +141,9 @@ impl<'a> Taking<'a> {
     /// A reader that takes its bytes from a source, where so much happens before it otherwise.
     fn of(reader: Event, source: Source<'a>, before: &Clock) -> Self {
         let clock = match source {
-            Source::From(_, writer) if synchronizes(&writer.event, &reader) => {
+            // What happens before a writer is counted with it.
+            Source::From(_, writer)
+                if !before.counts(writer.event.key()) && synchronizes(&writer.event, &reader) => {
                 before.joined(&writer.clock)
             }
             _ => *before,
@@ -194,17 +196,9 @@ impl<'a> Taking<'a> {
         }
     }
 
-    /// The room that the event at a place of the order leaves the reader.
-    fn room_by(&self, place: usize, other: &Happened) -> Room {
+    /// The room that an event which comes after the source leaves the reader.
+    fn room_by(&self, other: &Happened) -> Room {
         if !other.event.writes() {
-            return Room::Free;
-        }
-        let is_after = match self.source {
-            Source::Init => true,
-            Source::From(source, _) => source < place,
-            Source::Later(_) => false,
-        };
-        if !is_after {
             return Room::Free;
         }
         if self.clock.counts(other.event.key())
@@ -220,25 +214,42 @@ impl<'a> Taking<'a> {
         }
     }
 
+    /// The first place of the order that could come after the source.
+    fn after_source(&self, order: &[Happened]) -> usize {
+        match self.source {
+            Source::Init => 0,
+            Source::From(place, _) => place.saturating_add(1),
+            Source::Later(_) => order.len(),
+        }
+    }
+
+    /// The first place of the order that comes after all that happens before the reader.
+    fn earliest(&self, order: &[Happened]) -> usize {
+        // A write in the middle could come between others.
+        if self.reader.writes() {
+            return order.len();
+        }
+        let last = order
+            .iter()
+            .rposition(|other| self.clock.counts(other.event.key()));
+        match last {
+            None => 0,
+            Some(place) => place.saturating_add(1),
+        }
+    }
+
     /// The place in the order that the reader can have: the first one, so that the next events of its thread can have the
     /// most.
     fn fit(&self, order: &[Happened]) -> Fit {
-        let mut earliest = 0usize;
         let mut latest = order.len();
-        for (place, other) in order.iter().enumerate() {
-            if self.clock.counts(other.event.key()) {
-                earliest = place.saturating_add(1);
-            }
-            match self.room_by(place, other) {
+        for place in self.after_source(order)..order.len() {
+            match self.room_by(&order[place]) {
                 Room::Free => {}
                 Room::Before => latest = latest.min(place),
                 Room::Nowhere => return Fit::Nowhere,
             }
         }
-        // A write in the middle could come between others.
-        if self.reader.writes() {
-            earliest = order.len();
-        }
+        let earliest = self.earliest(order);
         if latest < earliest {
             return Fit::Blocked(latest);
         }
@@ -318,6 +329,21 @@ impl Hint {
         Hint {
             order: Vec::new(alloc),
         }
+    }
+
+    /// Adds an event that comes last and takes its bytes from what was written last.
+    pub(crate) fn append(&mut self, event: Event) -> Result<(), AllocError> {
+        let mut clock = next_clock(self.order.as_slice(), event.key());
+        for happened in self.order.as_slice().iter().rev() {
+            if writes_in(&happened.event, &event) {
+                if event.reads() && synchronizes(&happened.event, &event) {
+                    clock = clock.joined(&happened.clock);
+                }
+                break;
+            }
+        }
+        self.order.push(Happened { event, clock })?;
+        Ok(())
     }
 
     /// A place for one more event, where some events are to come later.

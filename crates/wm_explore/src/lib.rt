@@ -9,6 +9,7 @@ mod copies;
 mod exploration;
 mod hint;
 mod idle;
+mod interleaving;
 mod judge;
 mod law;
 mod moved;

@@ -1,7 +1,7 @@
 //! The thread that made the last event of a state.
-ghost use Rattle.std.specs.Prelude.{◌≡◌, Some, true, IfOk, IfSome, OnOk, slice_get};
+ghost use Rattle.std.specs.Prelude.{◌≡◌, Some, true, IfOk, IfSome, OnOk};
 ghost use Rattle.wm_event.specs.Limits.{max_steps};
-ghost use Rattle.wm_explore.specs.Cache.{Recalls};
+ghost use Rattle.wm_explore.specs.Cache.{Recalls, RecallsOf};
 ghost use Rattle.wm_explore.specs.Executions.{starts_of};
 ghost use Rattle.wm_explore.specs.Moved.{IsMoved, IsMovedBy};
 ghost use Rattle.wm_replay.specs.Complete.{RunsWithinLimit};
@@ -27,24 +27,20 @@ pub(crate) struct Moved {
     pub is_idle: bool,
 }
 
-/// A thread of a state that was run by its log: on from where it was before its last event, if that was kept, and from its
-/// start otherwise. None if it doesn't start.
+/// A thread that was run by its log: on from where it was before its last event, if that was kept, and from its start
+/// otherwise. None if it doesn't start.
 fn followed_by<'m>(
     alloc: Global,
     module: &'m ValidModule,
-    state: &State,
     stated: &ThreadLog,
     number: usize,
-    cache: &mut Cache<'m>,
+    cache: &Cache<'m>,
 ) -> Result<Option<Followed<'m>>, AllocError>
-    requires thread { slice_get state.now.log number ≡ Some stated.now }
     requires places { HasPlaces number stated.now.events }
-    requires recalls { Recalls «module».now (starts_of state.now.log) cache.old }
-    ensures followed { IfOk result (λ found. IfSome found (IsFollowed «module».now number stated.now max_steps)) }
-    ensures recalls { OnOk result (Recalls «module».now (starts_of state.now.log) cache.new) }
+    requires recalls { RecallsOf «module».now number stated.now.start cache.now }
+    ensures { IfOk result (λ found. IfSome found (IsFollowed «module».now number stated.now max_steps)) }
 {
-    let _log = state.log.threads();
-    if let Some(before) = cache.take_before(number, stated) {
+    if let Some(before) = cache.before(alloc, number, stated)? {
         let followed = follow_on(before, stated, number, MAX_STEPS)?;
         return Ok(Some(followed));
     }
@@ -100,7 +96,7 @@ pub(crate) fn last_moved<'m>(
     if let Some(moved) = cache.find(number, stated) {
         return Ok(Some(moved));
     }
-    match followed_by(alloc, module, state, stated, number, cache)? {
+    match followed_by(alloc, module, stated, number, cache)? {
         None => Ok(None),
         Some(followed) => {
             let moved = moved_by(alloc, module, stated, number, &followed)?;

@@ -439,6 +439,18 @@ fn is_overtaken(
     false
 }
 
+/// Whether a source has the range of the next event, and left all bytes that this reads. Such a source seldom gives only some
+/// of them.
+fn leaves_all(state: &State, next: &Event, source: EventId) -> bool {
+    let EventId::At(key) = source else {
+        return false;
+    };
+    match state.log.event(key) {
+        None => false,
+        Some(event) => event.written == next.read && event.range() == next.range(),
+    }
+}
+
 /// Whether the next event can have its lowest byte from a source.
 fn can_begin(
     state: &State,
@@ -459,6 +471,9 @@ fn can_begin(
     }
     if is_overtaken(state, writing, &before.order, next, source) {
         return false;
+    }
+    if leaves_all(state, next, source) {
+        return true;
     }
     for byte in 1..next.width.bytes() {
         if !has_source(state, writing, initial, &before.clock, next, source, byte) {
@@ -577,6 +592,9 @@ fn can_take(
 {
     if !can_give(state, writing, initial, before, next, byte, source) {
         return false;
+    }
+    if leaves_all(state, next, source) {
+        return true;
     }
     for other in 0..next.width.bytes() {
         if !has_source(state, writing, initial, before, next, source, other) {

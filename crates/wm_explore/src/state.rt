@@ -9,6 +9,7 @@ ghost use Rattle.wm_replay.specs.declared.continuing.Next.{Next};
 
 use crate::copies::{with_arrival, with_event};
 use crate::hint::Hint;
+use crate::interleaving::interleaved;
 use crate::past::Past;
 use std::alloc::{AllocError, Global};
 use wm_event::{Event, EventKey, Initial, Log};
@@ -71,17 +72,21 @@ fn all_known(alloc: Global, nexts: &[Next]) -> Result<List<Option<Next>>, AllocE
     Ok(known)
 }
 
-/// A hint with one more event, if there is one.
+/// A hint for a log whose events arrived in this order, where there may be one without the last of them.
 fn hint_with(
     alloc: Global,
     initial: &Initial,
     hint: &Option<Hint>,
     event: Event,
+    log: &Log,
+    arrived: &[EventKey],
 ) -> Result<Option<Hint>, AllocError> {
-    match hint {
-        None => Ok(None),
-        Some(hint) => hint.with(alloc, initial, event),
+    if let Some(hint) = hint
+        && let Some(longer) = hint.with(alloc, initial, event)?
+    {
+        return Ok(Some(longer));
     }
+    interleaved(alloc, initial, log, arrived)
 }
 
 impl State {
@@ -104,7 +109,7 @@ impl State {
         let arrived = with_arrival(alloc, self.arrived.as_slice(), event.key())?;
         let marks = with_mark(alloc, self.marks.as_slice(), thread, None)?;
         let known = known_but(alloc, nexts, thread)?;
-        let hint = hint_with(alloc, initial, &self.hint, event)?;
+        let hint = hint_with(alloc, initial, &self.hint, event, &log, arrived.as_slice())?;
         Ok(State {
             log,
             arrived,

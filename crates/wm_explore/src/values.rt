@@ -1,5 +1,5 @@
 //! The values that a read can have.
-ghost use Rattle.std.specs.Prelude.{◌≡◌, IfOk, OnOk};
+ghost use Rattle.std.specs.Prelude.{◌≡◌, [], IfOk, OnOk};
 ghost use Rattle.wm_explore.specs.Values.{Adds, KeepsNew, OffersAll, OffersInitial, ReadsAll, WidensTo, byte_left as spec_byte_left, is_new as spec_is_new, joined as spec_joined, left_at as spec_left_at};
 ghost use Rattle.wm_explore.specs.Writing.{ListsAt, ListsWriting};
 
@@ -39,16 +39,25 @@ fn is_new(place: usize, mark: Option<usize>) -> bool
     }
 }
 
-/// The initial byte of an address, if it is in the memory.
+/// No parts, in the memory of others.
+fn emptied(parts: List<Part>) -> List<Part>
+    ensures { result ≡ [] }
+{
+    let mut parts = parts.into_vec();
+    parts.clear();
+    List::from_vec(parts)
+}
+
+/// The initial byte of an address, if it is in the memory. The list takes over the memory of another one.
 fn initial_offers(
-    alloc: Global,
+    other: List<Part>,
     initial: &Initial,
     address: u64,
     mark: Option<usize>,
 ) -> Result<List<Part>, AllocError>
     ensures { IfOk result (OffersInitial initial.now address mark) }
 {
-    let mut offers = List::new(alloc);
+    let mut offers = emptied(other);
     match initial.byte(address as usize) {
         None => {}
         Some(byte) => offers.push(Part {
@@ -74,9 +83,9 @@ fn left_at(state: &State, place: usize, address: u64) -> Option<u8>
 }
 
 /// The bytes that a read of an address can have: the initial one and those that events left that have arrived. New are
-/// those of events after the first `mark`; without a mark all are.
+/// those of events after the first `mark`; without a mark all are. The list takes over the memory of another one.
 fn offers(
-    alloc: Global,
+    other: List<Part>,
     state: &State,
     writing: &[usize],
     initial: &Initial,
@@ -86,7 +95,7 @@ fn offers(
     requires { ListsAt state.now address writing.now }
     ensures { IfOk result (OffersAll state.now initial.now address mark) }
 {
-    let mut offers = initial_offers(alloc, initial, address, mark)?;
+    let mut offers = initial_offers(other, initial, address, mark)?;
     for place in writing {
         match left_at(state, *place, address) {
             None => {}
@@ -110,11 +119,11 @@ fn joined(part: Part, offer: Part) -> Part
     }
 }
 
-/// Each part with each byte offered.
-fn widened(alloc: Global, parts: &[Part], offers: &[Part]) -> Result<List<Part>, AllocError>
+/// Each part with each byte offered. The list takes over the memory of another one.
+fn widened(other: List<Part>, parts: &[Part], offers: &[Part]) -> Result<List<Part>, AllocError>
     ensures { IfOk result (WidensTo parts.now offers.now) }
 {
-    let mut wide = List::new(alloc);
+    let mut wide = emptied(other);
     for part in parts {
         for offer in offers {
             add(&mut wide, joined(*part, *offer))?;
@@ -155,10 +164,15 @@ pub(crate) fn values(
         value: 0,
         is_new: mark.is_none(),
     })?;
+    let mut others = List::new(alloc);
+    let mut offers_before = List::new(alloc);
     for done in 0..width {
         let address = u64::from(op.address) + u64::from(width - 1 - done);
-        let offers = offers(alloc, state, writing, initial, address, mark)?;
-        parts = widened(alloc, parts.as_slice(), offers.as_slice())?;
+        let offers = offers(offers_before, state, writing, initial, address, mark)?;
+        let wide = widened(others, parts.as_slice(), offers.as_slice())?;
+        offers_before = offers;
+        others = parts;
+        parts = wide;
     }
     new_values(alloc, parts.as_slice())
 }

@@ -1,8 +1,9 @@
 //! An active call, and the outcome of a step within it.
-ghost use Rattle.std.specs.Prelude.{◌≡◌, true};
+ghost use Rattle.std.specs.Prelude.{◌≡◌, true, IfOk};
 
 use crate::control_stack::ControlStack;
 use crate::locals::Locals;
+use std::alloc::{AllocError, Global};
 use wm_event::TrapKind;
 
 /// An active call, with its current state.
@@ -14,6 +15,17 @@ pub struct CallFrame<'m> {
 }
 
 impl<'m> CallFrame<'m> {
+    /// A copy.
+    pub fn copy(&self, alloc: Global) -> Result<Self, AllocError>
+        ensures { IfOk result (λ copy. copy ≡ self.now) }
+    {
+        Ok(CallFrame {
+            func: self.func,
+            locals: self.locals.copy(alloc)?,
+            control_stack: self.control_stack.copy(alloc)?,
+        })
+    }
+
     /// Whether both are calls of the same function, at the same place and with the same values.
     pub fn is_same(&self, other: &CallFrame) -> bool
         ensures { result ≡ true → self.now ≡ other.now }

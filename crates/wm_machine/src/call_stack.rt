@@ -57,6 +57,17 @@ impl<'m> CallStack<'m> {
         are_same(&self.calls[..self.depth], &other.calls[..other.depth])
     }
 
+    /// A copy, without calls that have returned.
+    pub fn copy(&self, alloc: Global) -> Result<Self, AllocError>
+        ensures { IfOk result (λ copy. copy ≡ self.now) }
+    {
+        let calls = copied(alloc, &self.calls[..self.depth])?;
+        Ok(CallStack {
+            calls,
+            depth: self.depth,
+        })
+    }
+
     /// Enters a function, which takes this number of operands of the running call as its arguments; the running call
     /// now waits. An `Err` changes nothing.
     pub fn enter(
@@ -117,6 +128,20 @@ fn are_same(calls: &[Box<CallFrame>], others: &[Box<CallFrame>]) -> bool
         }
     }
     true
+}
+
+/// A copy of calls.
+fn copied<'m>(
+    alloc: Global,
+    calls: &[Box<CallFrame<'m>>],
+) -> Result<Vec<Box<CallFrame<'m>>>, AllocError>
+    ensures { IfOk result (λ copy. map box_value copy.items ≡ map box_value calls.now) }
+{
+    let mut copy = Vec::new(alloc);
+    for call in calls {
+        copy.push(boxed(alloc, call.copy(alloc)?)?)?;
+    }
+    Ok(copy)
 }
 
 /// A call in a box.

@@ -1,5 +1,5 @@
 //! The blocks that a call is in, with their operands on one stack.
-ghost use Rattle.std.specs.Prelude.{◌≡◌, ◌≤◌, ◌<◌, ◌-◌, ◌+◌, ◌^◌, [], ◌∷◌, length, drop, take, reverse, slice_get, OnOk, OnErr, IfSome, Some, None, true, false};
+ghost use Rattle.std.specs.Prelude.{◌≡◌, ◌≤◌, ◌<◌, ◌-◌, ◌+◌, ◌^◌, [], ◌∷◌, length, drop, take, reverse, slice_get, IfOk, OnOk, OnErr, IfSome, Some, None, true, false};
 ghost use Rattle.wm_machine.specs.Nest.{Nest, at_begin, closed, entered, given_up, unwound};
 
 use crate::value::{TypedValue, are_same as same_values};
@@ -107,6 +107,17 @@ impl ControlStack {
             return false;
         }
         same_values(self.values.as_slice(), other.values.as_slice())
+    }
+
+    /// A copy.
+    pub fn copy(&self, alloc: Global) -> Result<Self, AllocError>
+        ensures { IfOk result (λ copy. copy ≡ self.now) }
+    {
+        Ok(ControlStack {
+            values: self.values.to_vec(alloc)?,
+            inner: self.inner,
+            outer: self.outer.to_vec(alloc)?,
+        })
     }
 
     /// Goes back to the start of a function's body.

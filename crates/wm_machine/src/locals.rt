@@ -60,6 +60,17 @@ impl<'m> Locals<'m> {
         Ok(())
     }
 
+    /// A copy.
+    pub fn copy(&self, alloc: Global) -> Result<Self, AllocError>
+        ensures { IfOk result (λ copy. copy ≡ self.now) }
+    {
+        Ok(Locals {
+            held: self.held.to_vec(alloc)?,
+            unset: self.unset,
+            sparse_locals: Box::new(alloc, self.sparse_locals.copy(alloc)?)?,
+        })
+    }
+
     /// Whether there is a local of this index.
     #[inline(always)]
     #[tactic(auto, using(crate::proofs::Held::length_parts))]

@@ -1,5 +1,5 @@
 //! Locals of which few are set.
-ghost use Rattle.std.specs.Prelude.{◌≡◌, ◌<◌, ◌^◌, ◌+◌, [], length, map, slice_get, slice_index_or, slice_set, nat_lt, OnOk, OnErr, IfSome, Some, None};
+ghost use Rattle.std.specs.Prelude.{◌≡◌, ◌<◌, ◌^◌, ◌+◌, [], length, map, slice_get, slice_index_or, slice_set, nat_lt, IfOk, OnOk, OnErr, IfSome, Some, None};
 ghost use Rattle.wm_ast.specs.declared.types.ValType.{ValType as ValTypeOf};
 ghost use Rattle.wm_machine.specs.declared.sparse_locals.Kept.{Kept as KeptAt};
 ghost use Rattle.wm_machine.specs.SparseLocals.{found, value_of, Sets};
@@ -56,6 +56,17 @@ impl<'m> SparseLocals<'m> {
     {
         self.held.clear();
         self.types = types;
+    }
+
+    /// A copy.
+    pub fn copy(&self, alloc: Global) -> Result<Self, AllocError>
+        ensures { IfOk result (λ copy. copy ≡ self.now) }
+    {
+        Ok(SparseLocals {
+            types: self.types,
+            slots: self.slots.to_vec(alloc)?,
+            held: self.held.to_vec(alloc)?,
+        })
     }
 
     /// Whether there is a local of this index.

@@ -20,7 +20,7 @@ use crate::perform::{next_op, step_in_frame};
 use crate::place::{Place, place_of};
 use crate::start::{any_past, first_globals, first_locals, func_of};
 use crate::value::{TypedValue, are_same};
-use std::alloc::Global;
+use std::alloc::{AllocError, Global};
 use std::marker::Model;
 use wm_ast::Module;
 use wm_event::{End, Op, Reply, TrapKind};
@@ -209,6 +209,25 @@ impl<'m> Thread<'m> {
             return false;
         }
         self.call_stack.is_same(&other.call_stack)
+    }
+
+    /// A copy, which goes on by itself.
+    ///
+    /// # Errors
+    ///
+    /// Only if an allocation fails.
+    pub fn copy(&self) -> Result<Thread<'m>, AllocError>
+        ensures { IfOk result (λ copy. copy ≡ self.now) }
+    {
+        let alloc = self.alloc;
+        Ok(Thread {
+            module: self.module,
+            end: self.end,
+            running: boxed(alloc, self.running.copy(alloc)?)?,
+            call_stack: self.call_stack.copy(alloc)?,
+            globals: List::from_vec(self.globals.as_slice().to_vec(alloc)?),
+            alloc,
+        })
     }
 
     /// Makes a step of a thread that hasn't ended, with the value that its access reads. Without a value, an access

@@ -39,6 +39,24 @@ pub struct Followed<'m> {
     pub positions: List<CodePosition>,
 }
 
+impl<'m> Followed<'m> {
+    /// A copy, whose thread goes on by itself.
+    ///
+    /// # Errors
+    ///
+    /// Only if an allocation fails.
+    pub fn copy(&self, alloc: Global) -> Result<Self, AllocError>
+        ensures { IfOk result (λ copy. copy ≡ self.now) }
+    {
+        Ok(Followed {
+            thread: self.thread.copy()?,
+            steps: self.steps,
+            events: self.events,
+            positions: List::from_vec(self.positions.as_slice().to_vec(alloc)?),
+        })
+    }
+}
+
 /// Whether the access makes the event when it reads the value that the event read.
 fn makes_event(op: &Op, event: &Event) -> bool
     ensures yes { result ≡ true → MakesEvent op.now event.now }

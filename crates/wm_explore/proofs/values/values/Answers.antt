@@ -17,11 +17,11 @@ loop-done-preserved c = record {
       let offers : OffersAll c.args.state.now c.args.initial.now (c.args.op.address + k) c.args.mark c.in_ok-offers.offers =
       subst (λ a. OffersAll c.args.state.now c.args.initial.now a c.args.mark c.in_ok-offers.offers) address c.in_ok-offers.ensures in
       let offered : Has c.in_ok-offers.offers (bytes k) = offers (bytes k) (sources k (omega (arith, within))) in
-      let wide : WidensTo c.loop-done.parts c.in_ok-offers.offers c.in_ok-parts.parts =
-      subst (λ ps. WidensTo ps c.in_ok-offers.offers c.in_ok-parts.parts) c.as_slice.ensures
-      (subst (λ qs. WidensTo c.as_slice.result.now qs c.in_ok-parts.parts) c.as_slice-in-loop-done.ensures c.in_ok-parts.ensures) in
+      let wide : WidensTo c.loop-done.parts c.in_ok-offers.offers c.in_ok-wide.wide =
+      subst (λ ps. WidensTo ps c.in_ok-offers.offers c.in_ok-wide.wide) c.as_slice.ensures
+      (subst (λ qs. WidensTo c.as_slice.result.now qs c.in_ok-wide.wide) c.as_slice-in-loop-done.ensures c.in_ok-wide.ensures) in
       let next : suc done ≡ done + 1 = omega arith in
-      subst (λ n. Has c.in_ok-parts.parts (highest bytes c.args.mark width n)) next (wide (highest bytes c.args.mark width done) (bytes k) before offered);
+      subst (λ n. Has c.in_ok-wide.wide (highest bytes c.args.mark width n)) next (wide (highest bytes c.args.mark width done) (bytes k) before offered);
 }
 
 pub returns : goal.returns

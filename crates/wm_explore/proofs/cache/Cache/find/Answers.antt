@@ -1,18 +1,15 @@
-use Rattle.std.proofs.Common.{◌≡◌, Some, sym, ap, subst, ◌∙◌, rules}
-use Rattle.std.specs.Prelude.{slice_get}
-use Rattle.std.proofs.lemmas.Bool.{ltb-true}
+use Rattle.std.proofs.Common.{sym, subst}
+use Rattle.wm_explore.specs.Cache.{IsEntryOf}
 use Rattle.wm_explore.specs.Moved.{IsMovedBy}
-use Rattle.wm_explore.proofs.Items.{item_at}
+use Rattle.wm_explore.specs.declared.cache.Entry.{Entry}
+use Rattle.wm_explore.proofs.Recalling.{entry_right}
 use Rattle.wm_explore.proofs.cache.Cache.find.Goals as goal
 
 pub returns : goal.returns
-returns c m starts recalls started =
-    let entry = c.in-Some-Some.entry in
-    let lookup = c.in-Some-Some.ensures.lookup in
-    let number : entry.moved.number ≡ c.args.number = search rules in
-    let events : c.args.stated.now.events ≡ entry.events = search rules in
-    let at : slice_get c.args.self.now.entries.items c.place_of.result ≡ Some (Some entry) =
-    item_at c.args.self.now.entries.items c.deref.result.now c.place_of.result c.in-Some-Some.field-0.now c.deref.ensures.value (ltb-true _ _ (sym lookup.0)) lookup.1
-    ∙ ap Some c.in-Some-Some.field-0-is in
-    subst (λ k. IsMovedBy m k c.args.stated.now entry.moved) number
-    (recalls c.place_of.result entry c.args.stated.now at (ap (slice_get starts) number ∙ started) events).moved
+returns c m recalls =
+    let k = c.args.number in
+    let t = c.args.stated.now in
+    let cache = c.args.self.now in
+    let entry = c.in_ok-entry.entry.now in
+    let is = entry_right m k t cache entry recalls (subst (λ es. IsEntryOf k es cache entry) c.as_slice.ensures c.in_ok-entry.ensures) in
+    subst (λ (e : Entry). IsMovedBy m k t e.moved) (sym c.deref.ensures) is.moved

@@ -1,23 +1,21 @@
-use Rattle.std.proofs.Common.{◌≡◌, Some, sym, ◌∙◌, rules}
-use Rattle.std.specs.Prelude.{slice_get}
+use Rattle.std.proofs.Common.{◌≡◌, sym, subst, ◌∙◌, rules}
 use Rattle.std.proofs.lemmas.Option.{same_Some}
-use Rattle.wm_event.specs.declared.log.ThreadLog.{ThreadLog}
-use Rattle.wm_explore.specs.Cache.{IsRecalled}
 use Rattle.wm_explore.specs.declared.cache.Entry.{Entry}
 use Rattle.wm_explore.proofs.Moving.{same_moved}
-use Rattle.wm_explore.proofs.Recalling.{replaced}
+use Rattle.wm_explore.proofs.Recalling.{IsRight, replaced}
 use Rattle.wm_explore.proofs.cache.Cache.keep.Goals as goal
 
 pub returns-in-Some : goal.returns-in-Some
-returns-in-Some c m starts recalls started moves run = replaced m starts c.args.self.now.entries.items recalls c.place_of.result kept right
+returns-in-Some c m starts recalls started moves run =
+    replaced m starts c.args.self.now.entries.items c.place_of.result c.in_ok-entry.entry recalls (subst (IsRight m starts) (sym c.in_ok-entry.ensures.ok) right)
   where
     kept : Entry
-    kept = record { events = c.from_vec-copy.result; moved = c.args.moved.now; thread = Some c.args.followed }
+    kept = record { events = c.from_vec.result; moved = c.args.moved.now; followed = c.args.followed }
 
-    copied : c.from_vec-copy.result ≡ c.args.stated.now.events
+    copied : c.from_vec.result ≡ c.args.stated.now.events
     copied = search rules
 
-    right : (t : ThreadLog) → slice_get starts c.args.moved.now.number ≡ Some t.start → t.events ≡ c.from_vec-copy.result → IsRecalled m c.args.moved.now.number t kept
+    right : IsRight m starts kept
     right t start events =
         let same : c.args.stated.now.start ≡ t.start = same_Some c.args.stated.now.start t.start (sym started ∙ start) in
         let all : c.args.stated.now.events ≡ t.events = sym (events ∙ copied) in record {
