@@ -89,11 +89,11 @@ pub(crate) fn write_of(reader: &Event) -> Event {
 
 /// Whether an event leaves all bytes that another one reads.
 fn leaves(writer: &Event, reader: &Event) -> bool {
-    if writer.range() == reader.range() {
-        return writer.writes() && writer.written == reader.read;
-    }
     if !writes_in(writer, reader) {
         return false;
+    }
+    if writer.range() == reader.range() {
+        return writer.written == reader.read;
     }
     let write = write_of(reader);
     for byte in 0..reader.width.bytes() {

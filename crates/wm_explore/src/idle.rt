@@ -57,7 +57,7 @@ fn was_at(
 
 /// Whether an access makes an event if it reads the value that the event read.
 fn is_made_by(event: &Event, op: Op) -> bool {
-    op.event(event.key(), event.read) == *event
+    op.fields().address == event.address && op.event(event.key(), event.read) == *event
 }
 
 /// Whether an event was made at this place by an access like this. Nothing rests on it but how many turns are compared.

@@ -193,6 +193,43 @@ fn first_read(state: &State, nexts: &[Next]) -> Option<Turn>
     None
 }
 
+/// The thread by which the fewest graphs are likely to follow, if it is to read: of those whose next access is atomic and that
+/// need not wait, one with the most events.
+fn preferred(state: &State, nexts: &[Next]) -> Option<usize> {
+    let mut preferred = None;
+    let mut most = 0;
+    for (number, stated) in state.log.threads().iter().enumerate() {
+        let Some(op) = read_of(state, number, *nexts.get(number)?) else {
+            continue;
+        };
+        let count = stated.events.len();
+        if op.fields().order.is_atomic() && (preferred.is_none() || count > most) {
+            preferred = Some(number);
+            most = count;
+        }
+    }
+    preferred
+}
+
+/// The event of the preferred thread, if there is one.
+fn preferred_read(state: &State, nexts: &[Next]) -> Option<Turn>
+    ensures { IfSome result (λ turn. FindsRead state.now nexts.now (Some turn)) }
+{
+    let number = preferred(state, nexts)?;
+    let op = read_of(state, number, *nexts.get(number)?)?;
+    Some(Turn::Read(number, op))
+}
+
+/// The event of a thread whose next access reads and that need not wait.
+fn next_read(state: &State, nexts: &[Next]) -> Option<Turn>
+    ensures { FindsRead state.now nexts.now result }
+{
+    match preferred_read(state, nexts) {
+        None => first_read(state, nexts),
+        Some(turn) => Some(turn),
+    }
+}
+
 /// Whether each thread ends.
 fn each_ends(nexts: &[Next]) -> bool
     ensures { EachEnds nexts.now result }
@@ -218,7 +255,7 @@ pub(crate) fn turn_of(state: &State, nexts: &[Next], events: u32) -> Turn
         None => {}
         Some(turn) => return turn,
     }
-    match first_read(state, nexts) {
+    match next_read(state, nexts) {
         None => {}
         Some(turn) => return turn,
     }

@@ -12,11 +12,11 @@ returns-in-Some-first_write c m are =
     (subst (FindsBound c.args.state.now.log c.args.nexts.now c.args.events) c.in-None.is c.met_bound.ensures)
     (subst (FindsWrite c.args.nexts.now) c.in-Some-first_write.is c.first_write.ensures)
 
-pub returns-in-Some-first_read : goal.returns-in-Some-first_read
-returns-in-Some-first_read c m are =
-    reads m c.args.state.now.log c.args.nexts.now are c.args.state.now refl c.args.events c.in-Some-first_read.turn
+pub returns-in-Some-next_read : goal.returns-in-Some-next_read
+returns-in-Some-next_read c m are =
+    reads m c.args.state.now.log c.args.nexts.now are c.args.state.now refl c.args.events c.in-Some-next_read.turn
     (subst (FindsBound c.args.state.now.log c.args.nexts.now c.args.events) c.in-None.is c.met_bound.ensures)
-    (subst (FindsRead c.args.state.now c.args.nexts.now) c.in-Some-first_read.is c.first_read.ensures)
+    (subst (FindsRead c.args.state.now c.args.nexts.now) c.in-Some-next_read.is c.next_read.ensures)
 
 pub returns-then-each_ends : goal.returns-then-each_ends
 returns-then-each_ends c m are =
@@ -27,5 +27,5 @@ returns c m are =
     stuck m c.args.state.now.log c.args.nexts.now are c.args.state.now refl c.args.events
     (subst (FindsBound c.args.state.now.log c.args.nexts.now c.args.events) c.in-None.is c.met_bound.ensures)
     (subst (FindsWrite c.args.nexts.now) c.in-None-first_write.is c.first_write.ensures)
-    (subst (FindsRead c.args.state.now c.args.nexts.now) c.in-None-first_read.is c.first_read.ensures)
+    (subst (FindsRead c.args.state.now c.args.nexts.now) c.in-None-next_read.is c.next_read.ensures)
     (subst (EachEnds c.args.nexts.now) c.if-each_ends.false c.each_ends.ensures)
