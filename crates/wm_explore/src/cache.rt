@@ -14,7 +14,7 @@ use wm_list::List;
 use wm_replay::Followed;
 
 /// How many bits of a hash give the place of an entry.
-const PLACE_BITS: u32 = 11;
+const PLACE_BITS: u32 = 9;
 
 /// How many entries are kept at once.
 const PLACES: usize = 1 << PLACE_BITS;

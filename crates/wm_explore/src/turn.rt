@@ -193,22 +193,27 @@ fn first_read(state: &State, nexts: &[Next]) -> Option<Turn>
     None
 }
 
-/// The thread by which the fewest graphs are likely to follow, if it is to read: of those whose next access is atomic and that
-/// need not wait, one with the most events.
+/// Whether the next access of a thread is atomic, if it reads and the thread is not marked.
+fn is_atomic_if_unmarked(state: &State, number: usize, next: Next) -> Option<bool> {
+    if state.mark(number).is_some() {
+        return None;
+    }
+    let op = read_of(state, number, next)?;
+    Some(op.fields().order.is_atomic())
+}
+
+/// The thread that is to read next, so that few graphs are likely to follow: the first one that is not marked, if it can be
+/// one whose next access is atomic.
 fn preferred(state: &State, nexts: &[Next]) -> Option<usize> {
-    let mut preferred = None;
-    let mut most = 0;
-    for (number, stated) in state.log.threads().iter().enumerate() {
-        let Some(op) = read_of(state, number, *nexts.get(number)?) else {
-            continue;
-        };
-        let count = stated.events.len();
-        if op.fields().order.is_atomic() && (preferred.is_none() || count > most) {
-            preferred = Some(number);
-            most = count;
+    let mut first = None;
+    for (number, next) in nexts.iter().enumerate() {
+        match is_atomic_if_unmarked(state, number, *next) {
+            Some(true) => return Some(number),
+            Some(false) if first.is_none() => first = Some(number),
+            Some(false) | None => {}
         }
     }
-    preferred
+    first
 }
 
 /// The event of the preferred thread, if there is one.
