@@ -346,3 +346,21 @@ fn threads_are_the_same_where_they_are_at_one_place_with_the_same_values(
     drop(module);
     run
 }
+
+/// A thread and its copy make steps of their own.
+fn copy_runs<R: Abort + AllocGlobal>(rt: &R, module: &ValidModule) -> Result<(), Fail> {
+    let mut thread = started(rt.alloc(), module, 8)?;
+    let mut copy = thread.copy()?;
+    steps_tell_apart(rt, &mut thread, &mut copy);
+    drop(thread);
+    drop(copy);
+    Ok(())
+}
+
+#[test]
+fn a_copy_goes_on_by_itself(rt: HostRuntime) -> Result<(), Fail> {
+    let module = loads_and_adds(rt.alloc())?;
+    let run = copy_runs(&rt, &module);
+    drop(module);
+    run
+}
