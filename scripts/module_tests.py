@@ -219,6 +219,24 @@ FILES = {
   (func (export "b")))
 """,
     ),
+    "waits-by-three-loads": (
+        """
+(module
+  (memory 1 1 shared)
+  (func (export "writer")
+    (i32.store8 (i32.const 0) (i32.const 1))
+    (i32.store8 (i32.const 0) (i32.const 2))
+    (i32.store8 (i32.const 1) (i32.const 1))
+    (i32.store8 (i32.const 1) (i32.const 2))
+    (i32.atomic.store (i32.const 4) (i32.const 1)))
+  (func (export "reader") (result i32) (local i32 i32)
+    (loop
+      (local.set 0 (i32.load8_u (i32.const 0)))
+      (local.set 1 (i32.load8_u (i32.const 1)))
+      (br_if 0 (i32.eqz (i32.atomic.load (i32.const 4)))))
+    (i32.add (i32.mul (local.get 0) (i32.const 10)) (local.get 1))))
+""",
+    ),
 }
 
 # ---- the modules of the tests of wm_tests: what they show, their names and texts

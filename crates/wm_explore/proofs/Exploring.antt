@@ -173,16 +173,16 @@ module _ (m : Module) (starts : List Start) (events : ℕ) (p : Progress) (progr
       by (inl c) = step.keeps x is causal c
       by (inr on) = step.takes x is causal on
 
-  -- after the state is dropped, since a thread's last events in it are an idle turn
+  -- after the state is dropped, since some events of a thread in it are an idle turn
   module _ (turn : HasIdleTurn m s.log) where
     -- an execution that goes on from the state has a shorter one that stands for it
     pub shorter : (x : LoggedRun) → IsExecutionOf m starts x → IsCausal (execution x) → GoesOn x s → (y : LoggedRun) × StandsFor m starts y x × (event_count y.log < event_count x.log)
     shorter x is causal on =
         let u = whole_thread s.log x.log on.beginning turn.number turn.thread turn.is_thread in
         let run = ended_run m starts x s.log is on.beginning turn.number turn.thread u.0 turn.is_thread u.1 in (
-          without_turn m starts x is causal turn.number turn.thread u.0 u.1 run turn.first turn.idle,
-          stands_for m starts x is causal turn.number turn.thread u.0 u.1 run turn.first turn.idle,
-          fewer m starts x is causal turn.number turn.thread u.0 u.1 run turn.first turn.idle,
+          without_turn m starts x is causal turn.number turn.thread u.0 u.1 run turn.turn.0 turn.turn.1 turn.turn.2,
+          stands_for m starts x is causal turn.number turn.thread u.0 u.1 run turn.turn.0 turn.turn.1 turn.turn.2,
+          fewer m starts x is causal turn.number turn.thread u.0 u.1 run turn.turn.0 turn.turn.1 turn.turn.2,
         )
 
 -- ---- in the end

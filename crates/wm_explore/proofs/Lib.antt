@@ -1,5 +1,6 @@
 pub mod Items
 pub mod Ends
+pub mod LeavingOut
 pub mod Lists
 pub mod Nexts
 pub mod Starts

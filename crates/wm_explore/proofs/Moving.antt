@@ -1,24 +1,20 @@
 -- What a thread does that has made the events of its log.
-use Rattle.std.proofs.Common.{◌≡◌, ℕ, ◌<◌, ◌≤◌, false, true, List, [], ◌∷◌, length, take, Option, None, Some, sym, ap, subst, ◌∙◌}
+use Rattle.std.proofs.Common.{◌≡◌, ℕ, ◌≤◌, true, List, [], ◌∷◌, length, take, Option, None, Some, sym, ap, subst, ◌∙◌}
 use Rattle.std.specs.Prelude.{IfSome, slice_get, zero, suc}
 use Rattle.std.proofs.lemmas.Option.{none-some, same_Some}
 use Rattle.wm_access.specs.AccessWidth.{Fits}
 use Rattle.wm_ast.specs.declared.module.Module.{Module}
-use Rattle.wm_event.specs.Event.{writes}
 use Rattle.wm_event.specs.Op.{event_made}
-use Rattle.wm_event.specs.declared.event.Event.{Event}
 use Rattle.wm_event.specs.declared.log.ThreadLog.{ThreadLog}
-use Rattle.wm_machine.specs.Run.{steps}
-use Rattle.wm_machine.specs.Term.{Config}
 use Rattle.wm_replay.specs.declared.continuing.Next.{Next}
 use Rattle.wm_replay.specs.declared.continuing.Next.TheVariants.{Ends, Access, Unknown}
 use Rattle.wm_replay.specs.Continuing.{ContinuesSo, GoesOn}
-use Rattle.wm_replay.specs.Replay.{reads_of, start_of}
 use Rattle.wm_explore.specs.Executions.{starts_of}
-use Rattle.wm_explore.specs.Idle.{HasIdleTurn, IsAt, IsIdle}
+use Rattle.wm_explore.specs.Idle.{HasIdleTurn, IsIdle, OnlyRead, leaving_out, shortened}
 use Rattle.wm_explore.specs.Moved.{IsMoved, IsMovedBy, MovesSo}
 use Rattle.wm_explore.specs.declared.moved.Moved.{Moved}
 use Rattle.wm_explore.specs.declared.state.State.{State}
+use Rattle.wm_explore.proofs.Idling.{after_same}
 
 -- the start of thread k
 pub start_at : (log : List ThreadLog) (k : ℕ) (t : ThreadLog) → slice_get log k ≡ Some t → slice_get (starts_of log) k ≡ Some t.start
@@ -43,28 +39,24 @@ module _ (m : Module) (k : ℕ) (t u : ThreadLog) (starts : u.start ≡ t.start)
     ended = run.ended;
   }))
 
-  at_same : (n : ℕ) (config : Config) → IsAt m k t n config → IsAt m k u n config
-  at_same n config at = record {
-    start = at.start;
-    is_start = ap (λ s. start_of m (record { start = s; end = t.end; steps = t.steps; events = t.events })) starts ∙ at.is_start;
-    count = at.count;
-    ran = subst (λ es. steps m k at.start (reads_of (take n es)) at.count ≡ Some (record { events = take n es; config = config; reads = [] })) (sym events) at.ran;
-  }
-
-  idle_same : (i : ℕ) → IsIdle m k t i → IsIdle m k u i
-  idle_same i idle = record {
-    some = subst (λ es. i < length es) (sym events) idle.some;
-    read = subst (λ es. (j : ℕ) (e : Event) → i ≤ j → slice_get es j ≡ Some e → writes e ≡ false) (sym events) idle.read;
+  idle_same : (i n : ℕ) → IsIdle m k t i n → IsIdle m k u i n
+  idle_same i n idle = record {
+    some = idle.some;
+    listed = subst (λ es. n ≤ length es) (sym events) idle.listed;
+    read = subst (λ es. OnlyRead es i n) (sym events) idle.read;
     config = idle.config;
-    before = at_same i idle.config idle.before;
-    after = subst (λ n. IsAt m k u n idle.config) (sym (ap length events)) (at_same (length t.events) idle.config idle.after);
+    count = idle.count;
+    after = after_same m k u t idle.config idle.count (sym starts) (sym events) idle.after;
+    fewer = idle.fewer;
+    without = after_same m k (shortened i n idle.fewer u) (shortened i n idle.fewer t) idle.config idle.fewer (sym starts) (ap (leaving_out i n) (sym events)) idle.without;
+    sooner = idle.sooner;
   }
 
   pub same_moved : (moved : Moved) → IsMovedBy m k t moved → IsMovedBy m k u moved
   same_moved moved by = record {
     number = by.number;
     next = continues_same moved.next by.next;
-    idle = λ is. (let idle = by.idle is in (idle.0, idle_same idle.0 idle.1));
+    idle = λ is. (let idle = by.idle is in (idle.0, idle.1, idle_same idle.0 idle.1 idle.2));
   }
 
 -- ---- the thread of a state
@@ -82,4 +74,4 @@ pub idle_turn : (m : Module) (s : State) (moved : Option Moved) → IfSome moved
 idle_turn m s moved found idle =
     let is : IsMoved m s idle.0 = subst (λ o. IfSome o (IsMoved m s)) idle.1 found in
     let turn = is.moves.idle idle.2 in
-    record { number = idle.0.number; thread = is.thread; is_thread = is.is_thread; first = turn.0; idle = turn.1 }
+    record { number = idle.0.number; thread = is.thread; is_thread = is.is_thread; turn = turn }

@@ -25,12 +25,13 @@ use Rattle.wm_part.proofs.PickLaw.{pick-is-valid, pick-lies-within}
 use Rattle.wm_replay.specs.Continuing.{IsEndedRun}
 use Rattle.wm_replay.specs.Replay.{IsRun}
 use Rattle.wm_explore.specs.Executions.{IsCausal, IsExecutionOf, IsWithin}
-use Rattle.wm_explore.specs.Idle.{IsIdle, StandsFor, shortened, without}
+use Rattle.wm_explore.specs.Idle.{IsIdle, StandsFor, leaving_out, shortened}
 use Rattle.wm_explore.specs.Judging.{IsAllowedWith, run_with}
 use Rattle.wm_explore.proofs.Alike.{allowed_too, events_of, holds_too}
 use Rattle.wm_explore.proofs.Beginnings.{event_at, some_of}
 use Rattle.wm_explore.proofs.Replacing.{at_replaced, replaced, replaced_count, replaced_ends, replaced_starts}
-use Rattle.wm_explore.proofs.ShorterRuns.{length_numbered, numbered_both, shorter_run}
+use Rattle.wm_explore.proofs.LeavingOut.{at_taken, length_numbered, numbered_both}
+use Rattle.wm_explore.proofs.ShorterRuns.{shorter_run}
 
 -- ---- which events stay
 
@@ -98,12 +99,6 @@ numbered_same o (e ∷ es) each =
     ap (λ m. with_number m e ∷ numbered (suc o) es) n
     ∙ ap (λ fs. e ∷ fs) (numbered_same (suc o) es (λ j f at. each (suc j) f at ∙ (let m : o + suc j ≡ suc o + j = omega arith in m)))
 
-at_taken : {X : Type 0} (n : ℕ) (xs : List X) (j : ℕ) (x : X) → slice_get (take n xs) j ≡ Some x → slice_get xs j ≡ Some x
-at_taken zero xs j x at = absurd (none-some x at)
-at_taken (suc n) [] j x at = absurd (none-some x at)
-at_taken (suc n) (y ∷ xs) zero x at = at
-at_taken (suc n) (y ∷ xs) (suc j) x at = at_taken n xs j x at
-
 longest : (m : Module) (k : ℕ) (t u : ThreadLog) → IsEndedRun m k t u → length t.events ≤ length u.events
 longest m k t u run =
     let n = length t.events in
@@ -114,11 +109,8 @@ longest m k t u run =
 
 -- ---- the execution
 
-module _ (m : Module) (starts : List Start) (x : LoggedRun) (is : IsExecutionOf m starts x) (causal : IsCausal (execution x)) (k : ℕ) (t u : ThreadLog) (at_u : slice_get x.log k ≡ Some u) (run : IsEndedRun m k t u) (i : ℕ)
-    (idle : IsIdle m k t i) where
-  abbrev pub n : ℕ
-  n = length t.events
-
+module _ (m : Module) (starts : List Start) (x : LoggedRun) (is : IsExecutionOf m starts x) (causal : IsCausal (execution x)) (k : ℕ) (t u : ThreadLog) (at_u : slice_get x.log k ≡ Some u) (run : IsEndedRun m k t u) (i n : ℕ)
+    (idle : IsIdle m k t i n) where
   abbrev pub D : EventKey → Bool
   D = stays k i n
 
@@ -142,8 +134,10 @@ module _ (m : Module) (starts : List Start) (x : LoggedRun) (is : IsExecutionOf 
           past (inr ge) (inl lt) =
               let at_k : slice_get x.log key.thread ≡ Some u = ap (slice_get x.log) same ∙ at_u in
               let there : slice_get u.events key.number ≡ Some e = sym (event_at x.log key u at_k) ∙ at in
-              let first : slice_get t.events key.number ≡ Some e = ap (λ es. slice_get es key.number) run.events ∙ within n u.events key.number lt ∙ there in
-              idle.read key.number e ge first
+              let listed = idle.listed in
+              let first : slice_get t.events key.number ≡ Some e =
+              ap (λ es. slice_get es key.number) run.events ∙ within (length t.events) u.events key.number (omega (arith, lt, listed)) ∙ there in
+              idle.read key.number e ge lt first
             where
               within : (c : ℕ) (es : List Event) (j : ℕ) → j < c → slice_get (take c es) j ≡ slice_get es j
               within zero es j lt = absurd (omega (arith, lt))
@@ -183,7 +177,7 @@ module _ (m : Module) (starts : List Start) (x : LoggedRun) (is : IsExecutionOf 
   -- ---- its log
 
   pub s : ℕ
-  s = (shorter_run m k t u run i idle).0
+  s = (shorter_run m k t u run i n idle).0
 
   abbrev pub short : ThreadLog
   short = shortened i n s u
@@ -192,7 +186,7 @@ module _ (m : Module) (starts : List Start) (x : LoggedRun) (is : IsExecutionOf 
   HaveNumbers log = (c : ℕ) (v : ThreadLog) → slice_get log c ≡ Some v → (j : ℕ) (e : Event) → slice_get v.events j ≡ Some e → e.number ≡ j
 
   long : n ≤ length u.events
-  long = longest m k t u run
+  long = let all = longest m k t u run in let listed = idle.listed in omega (arith, all, listed)
 
   other : (o : ℕ) (v : ThreadLog) → o ≢ k → ((j : ℕ) (e : Event) → slice_get v.events j ≡ Some e → e.number ≡ j) → numbered 0 (kept (of_thread D o) 0 v.events) ≡ v.events
   other o v not have =
@@ -205,7 +199,7 @@ module _ (m : Module) (starts : List Start) (x : LoggedRun) (is : IsExecutionOf 
       ap (λ (es : List Event). es ∷ events_of (pick_threads D (suc o) log)) (other o v (λ e. absurd (omega (arith, e, past))) (have 0 v refl))
       ∙ ap (λ (ess : List (List Event)). v.events ∷ ess) (others (suc o) log (omega (arith, past)) (λ c. have (suc c)))
 
-  this : numbered 0 (kept (of_thread D k) 0 u.events) ≡ without i n u.events
+  this : numbered 0 (kept (of_thread D k) 0 u.events) ≡ leaving_out i n u.events
   this =
       let first : length (take i u.events) ≡ i = length-take-le i u.events (omega (arith, le, long)) in
       let z : 0 + length (take i u.events) ≡ i = omega (arith, first) in
@@ -223,7 +217,7 @@ module _ (m : Module) (starts : List Start) (x : LoggedRun) (is : IsExecutionOf 
       let is_u : v ≡ u = same_Some v u at in
       ap (λ (es : List Event). es ∷ events_of (pick_threads D (suc o) log))
       (ap (λ c. numbered 0 (kept (of_thread D c) 0 v.events)) same ∙ ap (λ (w : ThreadLog). numbered 0 (kept (of_thread D k) 0 w.events)) is_u ∙ this)
-      ∙ ap (λ (ess : List (List Event)). without i n u.events ∷ ess) (others (suc o) log (omega (arith, e)) (λ c. have (suc c)))
+      ∙ ap (λ (ess : List (List Event)). leaving_out i n u.events ∷ ess) (others (suc o) log (omega (arith, e)) (λ c. have (suc c)))
   alike_from o (suc j) (v ∷ log) e at have =
       ap (λ (es : List Event). es ∷ events_of (pick_threads D (suc o) log)) (other o v (λ same. absurd (omega (arith, e, same))) (have 0 v refl))
       ∙ ap (λ (ess : List (List Event)). v.events ∷ ess) (alike_from (suc o) j log (omega (arith, e)) at (λ c. have (suc c)))
@@ -258,11 +252,11 @@ module _ (m : Module) (starts : List Start) (x : LoggedRun) (is : IsExecutionOf 
 
   its_run : IsRun m k short
   unfolding s
-  its_run = (shorter_run m k t u run i idle).2
+  its_run = (shorter_run m k t u run i n idle).2
 
   no_longer : s ≤ u.steps
   unfolding s
-  no_longer = (shorter_run m k t u run i idle).1
+  no_longer = (shorter_run m k t u run i n idle).1
 
   its_length : length short.events + (n - i) ≡ length u.events
   its_length =

@@ -1,5 +1,5 @@
 -- A run without one of its idle turns is a run.
-use Rattle.std.proofs.Common.{◌≡◌, ℕ, zero, suc, ◌+◌, ◌-◌, ◌<◌, ◌≤◌, Bool, true, false, inl, inr, List, [], ◌∷◌, ◌++◌, length, take, drop, Option, None, Some, Ok, refl, sym, ap, subst, ◌∙◌, length-append, length-take-le, append_assoc, arith, if◌then◌else◌}
+use Rattle.std.proofs.Common.{◌≡◌, ℕ, zero, suc, ◌+◌, ◌-◌, ◌<◌, ◌≤◌, Bool, true, false, inl, inr, List, [], ◌∷◌, ◌++◌, length, drop, Option, None, Some, Ok, refl, sym, ap, subst, ◌∙◌, length-append, append_assoc, arith, if◌then◌else◌}
 use Rattle.std.specs.Prelude.{◌⊎◌, Result}
 use Rattle.std.proofs.lemmas.Bool.{cases_order}
 use Rattle.std.proofs.lemmas.List.{append-nil, take-append-drop}
@@ -14,25 +14,16 @@ use Rattle.wm_event.specs.Event.{reads}
 use Rattle.wm_machine.specs.Term.{Config, NoStep, ReducesTo, Step}
 use Rattle.wm_machine.specs.Step.{access_of, step}
 use Rattle.wm_machine.specs.Run.{Outcome, Ran, Taken, and_run_on, end_of, noted, outcome_of, outcome_with, ran_on, ran_with, run_from, run_on, steps, take_read}
-use Rattle.wm_part.specs.Pick.{numbered, with_number}
+use Rattle.wm_part.specs.Pick.{numbered}
 use Rattle.wm_replay.specs.Continuing.{IsEndedRun}
 use Rattle.wm_replay.specs.Replay.{IsRun, reads_of, start_of}
 use Rattle.wm_replay.proofs.Continuations.{ended_stops, reads_of_both, steps_on_more}
 use Rattle.wm_replay.proofs.Differing.{no_step}
-use Rattle.wm_replay.proofs.Runs.{and_some, more, more_grows, more_none, outcome_some, steps_more}
-use Rattle.wm_explore.specs.Idle.{IsAt, IsIdle, shortened, without}
+use Rattle.wm_replay.proofs.Runs.{and_some, more, more_none, outcome_some, steps_more}
+use Rattle.wm_explore.specs.Idle.{IsAfter, IsIdle, leaving_out, shortened}
+use Rattle.wm_explore.proofs.LeavingOut.{left_both, length_numbered, numbered_both}
 
 -- ---- events that are renumbered
-
-pub numbered_both : (n : ℕ) (es fs : List Event) → numbered n (es ++ fs) ≡ numbered n es ++ numbered (n + length es) fs
-numbered_both n [] fs = let e : n ≡ n + 0 = omega arith in ap (λ m. numbered m fs) e
-numbered_both n (e ∷ es) fs =
-    let m : suc n + length es ≡ n + suc (length es) = omega arith in
-    ap (λ (gs : List Event). with_number n e ∷ gs) (numbered_both (suc n) es fs ∙ ap (λ i. numbered (suc n) es ++ numbered i fs) m)
-
-pub length_numbered : (n : ℕ) (es : List Event) → length (numbered n es) ≡ length es
-length_numbered n [] = refl
-length_numbered n (e ∷ es) = ap suc (length_numbered (suc n) es)
 
 -- they read what they read before
 reads_numbered : (n : ℕ) (es : List Event) → reads_of (numbered n es) ≡ reads_of es
@@ -113,12 +104,6 @@ same_rest : {X : Type 0} (xs ys zs : List X) → xs ++ ys ≡ xs ++ zs → ys �
 same_rest [] ys zs h = h
 same_rest (x ∷ xs) ys zs h = same_rest xs ys zs (ap (drop 1) h)
 
-take_of_take : {X : Type 0} (n m : ℕ) (xs : List X) → n ≤ m → take n (take m xs) ≡ take n xs
-take_of_take zero m xs lt = refl
-take_of_take (suc n) zero xs lt = absurd (omega (arith, lt))
-take_of_take (suc n) (suc m) [] lt = refl
-take_of_take (suc n) (suc m) (x ∷ xs) lt = ap (λ ys. x ∷ ys) (take_of_take n m xs (omega (arith, lt)))
-
 no_more : (reads : List ℕ) (ran : Ran) (out : Outcome) → outcome_with reads ran ≡ Some out → reads ≡ []
 no_more [] ran out h = refl
 no_more (r ∷ reads) ran out h = absurd (none-some out h)
@@ -157,126 +142,97 @@ module _ (m : Module) (k : ℕ) (t u : ThreadLog) (is : IsEndedRun m k t u) wher
   same_start : start_of m u ≡ start_of m t
   same_start = ap (λ (s : Start). start_of m record { start = s; end = u.end; steps = u.steps; events = u.events }) is.start
 
-  same_firsts : (n : ℕ) → n ≤ length t.events → take n t.events ≡ take n u.events
-  same_firsts n few = ap (take n) is.events ∙ take_of_take n (length t.events) u.events few
+  -- the events after those of t
+  abbrev later : List Event
+  later = drop (length t.events) u.events
 
-  -- where the thread is after its first n events, its ended run comes by
-  module _ (n : ℕ) (config : Config) (few : n ≤ length t.events) (at : IsAt m k t n config) where
-    pub comes_by : steps m k at.start (reads_of u.events) at.count ≡ Some (record { events = take n u.events; config = config; reads = reads_of (drop n u.events) })
-    comes_by =
-        ap (λ es. steps m k at.start (reads_of es) at.count) (sym (take-append-drop n u.events))
-        ∙ ap (λ rs. steps m k at.start rs at.count) (reads_of_both (take n u.events) (drop n u.events) ∙ ap (λ es. reads_of es ++ reads_of (drop n u.events)) (sym (same_firsts n few)))
-        ∙ steps_on_more m k at.start (reads_of (take n t.events)) (reads_of (drop n u.events)) at.count _ at.ran
-        ∙ ap (λ es. Some (record { events = es; config = config; reads = reads_of (drop n u.events) })) (same_firsts n few)
+  all_events : u.events ≡ t.events ++ later
+  all_events = sym (take-append-drop (length t.events) u.events) ∙ ap (λ es. es ++ later) (sym is.events)
+
+  -- where the thread is after the events of t, its ended run comes by
+  module _ (config : Config) (count : ℕ) (at : IsAfter m k t config count) where
+    comes_by : steps m k at.start (reads_of u.events) count ≡ Some (record { events = t.events; config = config; reads = reads_of later })
+    comes_by = ap (λ es. steps m k at.start (reads_of es) count) all_events ∙ ap (λ rs. steps m k at.start rs count) (reads_of_both t.events later)
+        ∙ steps_on_more m k at.start (reads_of t.events) (reads_of later) count _ at.ran
 
     -- and it doesn't end before that
-    pub comes_within : at.count ≤ u.steps
-    comes_within = by (cases_order at.count u.steps)
+    comes_within : count ≤ u.steps
+    comes_within = by (cases_order count u.steps)
       where
         whole : WholeRun m k u at.start
         whole = whole_run m k u at.start (same_start ∙ at.is_start) is.is_run
 
-        beyond : u.steps < at.count → ⊥
+        beyond : u.steps < count → ⊥
         beyond lt =
-            let i = at.count - suc u.steps in
-            let split : steps m k at.start (reads_of u.events) at.count ≡ more m k i (steps m k at.start (reads_of u.events) (suc u.steps)) =
-            steps_more m k at.start (reads_of u.events) i (suc u.steps) at.count (omega (arith, lt)) in
+            let i = count - suc u.steps in
+            let split : steps m k at.start (reads_of u.events) count ≡ more m k i (steps m k at.start (reads_of u.events) (suc u.steps)) =
+            steps_more m k at.start (reads_of u.events) i (suc u.steps) count (omega (arith, lt)) in
             let over = ended_stops m whole.ran.config (λ e. is.ended (sym whole.ended ∙ e)) in
             let none : steps m k at.start (reads_of u.events) (suc u.steps) ≡ None = ap (and_run_on m k) whole.ran_so ∙ no_step m k whole.ran over in
             none-some _ (sym (more_none m k i) ∙ sym (split ∙ ap (more m k i) none) ∙ comes_by)
 
-        by : (at.count ≡ u.steps) ⊎ ((at.count < u.steps) ⊎ (u.steps < at.count)) → at.count ≤ u.steps
+        by : (count ≡ u.steps) ⊎ ((count < u.steps) ⊎ (u.steps < count)) → count ≤ u.steps
         by (inl e) = omega (arith, e)
         by (inr (inl lt)) = omega (arith, lt)
         by (inr (inr gt)) = absurd (beyond gt)
 
   -- ---- without the turn
 
-  module _ (i : ℕ) (idle : IsIdle m k t i) where
-    abbrev n : ℕ
-    n = length t.events
-
-    abbrev b : IsAt m k t i idle.config
-    b = idle.before
-
-    abbrev a : IsAt m k t n idle.config
+  module _ (i n : ℕ) (idle : IsIdle m k t i n) where
+    abbrev a : IsAfter m k t idle.config idle.count
     a = idle.after
 
-    few : i ≤ n
-    few = let lt = idle.some in omega (arith, lt)
+    abbrev b : IsAfter m k (shortened i n idle.fewer t) idle.config idle.fewer
+    b = idle.without
+
+    -- the events of t that are left
+    abbrev left : List Event
+    left = leaving_out i n t.events
 
     one_start : a.start ≡ b.start
     one_start = same_ok a.start a.start b.start (sym a.is_start ∙ b.is_start)
 
-    long : n ≤ length u.events
-    long =
-        let e : n ≡ length (take n u.events) = ap length is.events in
-        let l = length-append (take n u.events) (drop n u.events) in
-        let w : length (take n u.events ++ drop n u.events) ≡ length u.events = ap length (take-append-drop n u.events) in
-        omega (arith, e, l, w)
-
-    -- the turn takes steps
-    rises : b.count ≤ a.count
-    rises = by (cases_order b.count a.count)
-      where
-        not : a.count < b.count → ⊥
-        not lt =
-            let d = b.count - a.count in
-            let split : steps m k b.start (reads_of u.events) b.count ≡ more m k d (steps m k b.start (reads_of u.events) a.count) = steps_more m k b.start (reads_of u.events) d a.count b.count (omega (arith, lt)) in
-            let there = ap (λ s. steps m k s (reads_of u.events) a.count) (sym one_start) ∙ comes_by n idle.config (omega arith) a in
-            let grown = more_grows m k d _ _ (sym (split ∙ ap (more m k d) there) ∙ comes_by i idle.config few b) in
-            let x : length (take i u.events) ≡ length (take n u.events) + length grown.0 = ap length grown.1 ∙ length-append (take n u.events) grown.0 in
-            let y : length (take i u.events) ≡ i = length-take-le i u.events (omega (arith, few, long)) in
-            let z : length (take n u.events) ≡ n = length-take-le n u.events long in
-            let some = idle.some in
-            omega (arith, x, y, z, some)
-
-        by : (b.count ≡ a.count) ⊎ ((b.count < a.count) ⊎ (a.count < b.count)) → b.count ≤ a.count
-        by (inl e) = omega (arith, e)
-        by (inr (inl lt)) = omega (arith, lt)
-        by (inr (inr gt)) = absurd (not gt)
-
     abbrev d : ℕ
-    d = u.steps - a.count
+    d = u.steps - idle.count
 
     whole : WholeRun m k u a.start
     whole = whole_run m k u a.start (same_start ∙ a.is_start) is.is_run
 
     abbrev from : Ran
-    from = record { events = take n u.events; config = idle.config; reads = reads_of (drop n u.events) }
+    from = record { events = t.events; config = idle.config; reads = reads_of later }
 
     goes_on : more m k d (Some from) ≡ Some whole.ran
     goes_on =
-        let lt = comes_within n idle.config (omega arith) a in
-        let split = steps_more m k a.start (reads_of u.events) d a.count u.steps (omega (arith, lt)) in
-        sym (split ∙ ap (more m k d) (comes_by n idle.config (omega arith) a)) ∙ whole.ran_so
+        let lt = comes_within idle.config idle.count a in
+        let split = steps_more m k a.start (reads_of u.events) d idle.count u.steps (omega (arith, lt)) in
+        sym (split ∙ ap (more m k d) (comes_by idle.config idle.count a)) ∙ whole.ran_so
 
     added : Adds m k d from whole.ran
     added = adds m k d from whole.ran goes_on
 
-    is_rest : added.added ≡ drop n u.events
-    is_rest = same_rest (take n u.events) added.added (drop n u.events) (sym added.events ∙ whole.made ∙ sym (take-append-drop n u.events))
+    is_rest : added.added ≡ later
+    is_rest = same_rest t.events added.added later (sym added.events ∙ whole.made ∙ all_events)
 
     abbrev events : List Event
-    events = without i n u.events
+    events = leaving_out i n u.events
 
     abbrev count : ℕ
-    count = d + b.count
+    count = d + idle.fewer
 
-    starts_so : steps m k b.start (reads_of events) b.count ≡ Some (after (take i u.events) from)
+    -- those that are left, and those after them
+    parts : events ≡ left ++ numbered (length left) later
+    parts = let lt = idle.some in ap (leaving_out i n) all_events ∙ left_both i n t.events later (omega (arith, lt)) idle.listed
+
+    starts_so : steps m k b.start (reads_of events) idle.fewer ≡ Some (after left from)
     starts_so =
-        ap (λ rs. steps m k b.start rs b.count) (reads_of_both (take i u.events) (numbered i (drop n u.events))
-        ∙ ap (λ rs. reads_of (take i u.events) ++ rs) (reads_numbered i (drop n u.events))
-        ∙ ap (λ es. reads_of es ++ reads_of (drop n u.events)) (sym (same_firsts i few)))
-        ∙ steps_on_more m k b.start (reads_of (take i t.events)) (reads_of (drop n u.events)) b.count _ b.ran
-        ∙ ap (λ es. Some (record { events = es; config = idle.config; reads = reads_of (drop n u.events) })) (same_firsts i few)
+        ap (λ es. steps m k b.start (reads_of es) idle.fewer) parts
+        ∙ ap (λ rs. steps m k b.start rs idle.fewer) (reads_of_both left (numbered (length left) later) ∙ ap (λ rs. reads_of left ++ rs) (reads_numbered (length left) later))
+        ∙ steps_on_more m k b.start (reads_of left) (reads_of later) idle.fewer _ b.ran
 
     ran_so : steps m k b.start (reads_of events) count ≡ Some (after events whole.ran)
-    ran_so =
-        let l : length (take i u.events) ≡ i = length-take-le i u.events (omega (arith, few, long)) in
-        steps_more m k b.start (reads_of events) d b.count count refl ∙ ap (more m k d) starts_so ∙ added.again (take i u.events)
-        ∙ ap (λ j. Some (after (take i u.events ++ numbered j added.added) whole.ran)) l
-        ∙ ap (λ es. Some (after (take i u.events ++ numbered i es) whole.ran)) is_rest
+    ran_so = steps_more m k b.start (reads_of events) d idle.fewer count refl ∙ ap (more m k d) starts_so ∙ added.again left
+        ∙ ap (λ es. Some (after (left ++ numbered (length left) es) whole.ran)) is_rest
+        ∙ ap (λ es. Some (after es whole.ran)) (sym parts)
 
     ends_so : outcome_of (Some (after events whole.ran)) ≡ Some (record { events = events; end = u.end })
     ends_so = ap (λ rs. outcome_with rs (after events whole.ran)) whole.all ∙ ap (λ (e : End). Some (record { events = events; end = e })) whole.ended
@@ -284,9 +240,9 @@ module _ (m : Module) (k : ℕ) (t u : ThreadLog) (is : IsEndedRun m k t u) wher
     -- it is a run, of no more steps
     pub shorter_run : (s : ℕ) × (s ≤ u.steps) × IsRun m k (shortened i n s u)
     shorter_run =
-        let lt = comes_within n idle.config (omega arith) a in
-        let rise = rises in (
+        let lt = comes_within idle.config idle.count a in
+        let sooner = idle.sooner in (
           count,
-          omega (arith, lt, rise),
+          omega (arith, lt, sooner),
           ap (λ r. run_from m k r (reads_of events) count) (same_start ∙ b.is_start) ∙ ap outcome_of ran_so ∙ ends_so,
         )

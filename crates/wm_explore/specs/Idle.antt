@@ -1,4 +1,4 @@
--- Turns in which a thread only reads and comes back to where it was, and executions without them.
+-- Turns of a loop without which a thread is where it is, and executions without them.
 use Rattle.std.specs.Prelude.{◌≡◌, ℕ, ◌<◌, ◌≤◌, false, List, [], ◌++◌, Ok, Some, drop, length, slice_get, take}
 use Rattle.wm_ast.specs.declared.module.Module.{Module}
 use Rattle.wm_event.specs.Event.{writes}
@@ -9,52 +9,53 @@ use Rattle.wm_event.specs.declared.log.Start.{Start}
 use Rattle.wm_event.specs.declared.log.ThreadLog.{ThreadLog}
 use Rattle.wm_explore.specs.Executions.{IsCausal, IsExecutionOf, IsWithin, ends_of}
 use Rattle.wm_machine.specs.Run.{steps}
-use Rattle.wm_machine.specs.State.{State, config_of}
 use Rattle.wm_machine.specs.Term.{Config}
 use Rattle.wm_part.specs.Pick.{numbered}
 use Rattle.wm_replay.specs.Replay.{reads_of, start_of}
 
 -- ---- a turn
 
--- thread k is in this configuration after it has made its first n events, and no others
-pub record IsAt (m : Module) (k : ℕ) (t : ThreadLog) (n : ℕ) (config : Config) : Type 0 where
+-- thread k is in this configuration after so many steps, which make the events of t and no others
+pub record IsAfter (m : Module) (k : ℕ) (t : ThreadLog) (config : Config) (count : ℕ) : Type 0 where
   pub start : Config
   pub is_start : start_of m t ≡ Ok start
-  pub count : ℕ
-  pub ran : steps m k start (reads_of (take n t.events)) count ≡ Some record { events = take n t.events; config = config; reads = [] }
+  pub ran : steps m k start (reads_of t.events) count ≡ Some record { events = t.events; config = config; reads = [] }
 
--- it has made all its events
-abbrev pub IsAfter : Module → ℕ → ThreadLog → State → Type 0
-IsAfter m k t thread = IsAt m k t (length t.events) (config_of thread)
+-- the events from number i on and below n write nothing
+abbrev pub OnlyRead : List Event → ℕ → ℕ → Type 0
+OnlyRead events i n = (j : ℕ) (e : Event) → i ≤ j → j < n → slice_get events j ≡ Some e → writes e ≡ false
 
--- the events from number i on only read, and after them thread k is where it was before them
-pub record IsIdle (m : Module) (k : ℕ) (t : ThreadLog) (i : ℕ) : Type 0 where
-  pub some : i < length t.events
-  pub read : (j : ℕ) (e : Event) → i ≤ j → slice_get t.events j ≡ Some e → writes e ≡ false
+-- the events without those from number i on and below n; the others keep their order
+abbrev pub leaving_out : ℕ → ℕ → List Event → List Event
+leaving_out i n events = take i events ++ numbered i (drop n events)
+
+abbrev pub shortened : ℕ → ℕ → ℕ → ThreadLog → ThreadLog
+shortened i n count t = record { start = t.start; end = t.end; steps = count; events = leaving_out i n t.events }
+
+-- the events from number i on and below n only read, and without them thread k comes to where it is, as soon or sooner
+pub record IsIdle (m : Module) (k : ℕ) (t : ThreadLog) (i n : ℕ) : Type 0 where
+  pub some : i < n
+  pub listed : n ≤ length t.events
+  pub read : OnlyRead t.events i n
   pub config : Config
-  pub before : IsAt m k t i config
-  pub after : IsAt m k t (length t.events) config
+  pub count : ℕ
+  pub after : IsAfter m k t config count
+  pub fewer : ℕ
+  pub without : IsAfter m k (shortened i n fewer t) config fewer
+  pub sooner : fewer ≤ count
 
--- its last events are such a turn
-abbrev pub EndsIdly : Module → ℕ → ThreadLog → Type 0
-EndsIdly m k t = (first : ℕ) × IsIdle m k t first
+-- some of its events are such a turn
+abbrev pub HasIdleReads : Module → ℕ → ThreadLog → Type 0
+HasIdleReads m k t = (first : ℕ) × (end : ℕ) × IsIdle m k t first end
 
--- the last events of some thread are such a turn
+-- some events of some thread are such a turn
 pub record HasIdleTurn (m : Module) (log : List ThreadLog) : Type 0 where
   pub number : ℕ
   pub thread : ThreadLog
   pub is_thread : slice_get log number ≡ Some thread
-  pub first : ℕ
-  pub idle : IsIdle m number thread first
+  pub turn : HasIdleReads m number thread
 
 -- ---- executions without it
-
--- the events without those from number i on and below n; the others keep their order
-abbrev pub without : ℕ → ℕ → List Event → List Event
-without i n events = take i events ++ numbered i (drop n events)
-
-abbrev pub shortened : ℕ → ℕ → ℕ → ThreadLog → ThreadLog
-shortened i n count t = record { start = t.start; end = t.end; steps = count; events = without i n t.events }
 
 -- y is an execution with the ends of x, with no more events in all, and with no more events or steps of a thread
 pub record StandsFor (m : Module) (starts : List Start) (y x : LoggedRun) : Type 0 where

@@ -2,7 +2,7 @@
 use Rattle.std.specs.Prelude.{◌≡◌, ℕ, true, Some, slice_get}
 use Rattle.wm_ast.specs.declared.module.Module.{Module}
 use Rattle.wm_event.specs.declared.log.ThreadLog.{ThreadLog}
-use Rattle.wm_explore.specs.Idle.{EndsIdly}
+use Rattle.wm_explore.specs.Idle.{HasIdleReads}
 use Rattle.wm_explore.specs.declared.moved.Moved.{Moved}
 use Rattle.wm_explore.specs.declared.state.State.{State}
 use Rattle.wm_replay.specs.Continuing.{ContinuesSo}
@@ -15,7 +15,7 @@ MovesSo m k t moved = moved.number ≡ k → ContinuesSo m k t moved.next
 pub record IsMovedBy (m : Module) (k : ℕ) (t : ThreadLog) (moved : Moved) : Type 0 where
   pub number : moved.number ≡ k
   pub next : ContinuesSo m k t moved.next
-  pub idle : moved.is_idle ≡ true → EndsIdly m k t
+  pub idle : moved.is_idle ≡ true → HasIdleReads m k t
 
 -- it goes on so after its events in the state
 pub record IsMoved (m : Module) (s : State) (moved : Moved) : Type 0 where

@@ -1,8 +1,12 @@
 //! Copies of logs.
-ghost use Rattle.std.specs.Prelude.{◌≡◌, ◌≤◌, ◌∷◌, ◌++◌, [], length, take, IfOk};
+ghost use Rattle.std.specs.Prelude.{◌≡◌, ◌<◌, ◌≤◌, ◌∷◌, ◌++◌, [], length, IfOk};
 ghost use Rattle.wm_event.specs.Log.{IsLog};
+ghost use Rattle.wm_explore.specs.Idle.{leaving_out};
 ghost use Rattle.wm_explore.specs.States.{extended, with_last};
+ghost use Rattle.wm_part.specs.Pick.{with_number};
+ghost use Rattle.wm_replay.specs.Following.{HasPlaces};
 
+use crate::idle::Stretch;
 use std::alloc::{AllocError, Global};
 use wm_event::{Event, EventKey, Log, Start, ThreadLog};
 use wm_list::{List, Text};
@@ -33,23 +37,39 @@ fn copied_thread(alloc: Global, thread: &ThreadLog) -> Result<ThreadLog, AllocEr
     })
 }
 
-/// A copy of the log of a thread with its first events only.
-pub(crate) fn first_events(
+/// An event with another number.
+fn renumbered(event: &Event, number: u32) -> Event
+    ensures { result ≡ with_number number event.now }
+{
+    Event { number, ..*event }
+}
+
+/// A copy of the log of thread `number` without some of its events; the others keep their order, and are renumbered.
+pub(crate) fn without(
     alloc: Global,
     thread: &ThreadLog,
-    count: usize,
+    stretch: Stretch,
+    number: usize,
 ) -> Result<ThreadLog, AllocError>
-    requires { count ≤ length thread.now.events }
+    requires some { stretch.first < stretch.end }
+    requires listed { stretch.end ≤ length thread.now.events }
+    requires places { HasPlaces number thread.now.events }
     ensures start { IfOk result (λ copy. copy.start ≡ thread.now.start) }
-    ensures events { IfOk result (λ copy. copy.events ≡ take count thread.now.events) }
+    ensures events { IfOk result (λ copy. copy.events ≡ leaving_out stretch.first stretch.end thread.now.events) }
 {
     let start = copied_start(alloc, &thread.start)?;
-    let events = thread.events.as_slice()[..count].to_vec(alloc)?;
+    let events = thread.events.as_slice();
+    let mut kept = events[..stretch.first].to_vec(alloc)?;
+    for place in stretch.end..events.len() {
+        // It takes the place of this one.
+        let replaced = events[place - (stretch.end - stretch.first)];
+        kept.push(renumbered(&events[place], replaced.number))?;
+    }
     Ok(ThreadLog {
         start,
         end: thread.end,
         steps: thread.steps,
-        events: List::from_vec(events),
+        events: List::from_vec(kept),
     })
 }
 

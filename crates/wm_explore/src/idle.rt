@@ -1,16 +1,24 @@
-//! Turns in which a thread only reads and comes back to where it was.
-ghost use Rattle.std.specs.Prelude.{◌≡◌, ◌≤◌, true, length, IfOk, IfSome};
-ghost use Rattle.wm_explore.specs.Idle.{EndsIdly, IsAfter, IsAt, IsIdle};
+//! Turns of a loop without which a thread is where it is, as those in which it only waits.
+ghost use Rattle.std.specs.Prelude.{◌≡◌, true, IfOk, IfSome};
+ghost use Rattle.wm_explore.specs.Idle.{HasIdleReads, IsAfter, IsIdle, OnlyRead};
 ghost use Rattle.wm_machine.specs.State.{config_of};
 ghost use Rattle.wm_replay.specs.Complete.{RunsWithinLimit};
 ghost use Rattle.wm_replay.specs.Following.{HasPlaces};
 
-use crate::copies::first_events;
+use crate::copies::without;
 use std::alloc::{AllocError, Global};
-use wm_event::{Event, MAX_STEPS, Op, ThreadLog};
+use wm_event::{Event, MAX_STEPS, ThreadLog};
+use wm_list::List;
 use wm_machine::{CodePosition, Need, Thread};
 use wm_replay::{Followed, follow};
 use wm_valid::ValidModule;
+
+/// Events of a thread that follow each other: those from number `first` on and below `end`.
+#[derive(Clone, Copy)]
+pub(crate) struct Stretch {
+    pub first: usize,
+    pub end: usize,
+}
 
 /// A thread that was run after the events of its log, if it makes them within [`MAX_STEPS`] steps.
 fn reached<'m>(
@@ -20,7 +28,7 @@ fn reached<'m>(
     number: usize,
 ) -> Result<Option<Followed<'m>>, AllocError>
     requires { HasPlaces number stated.now.events }
-    ensures at { IfOk result (λ found. IfSome found (λ f. IsAfter «module».now number stated.now f.thread)) }
+    ensures after { IfOk result (λ found. IfSome found (λ f. IsAfter «module».now number stated.now (config_of f.thread) f.steps)) }
     ensures same { IfOk result (λ found. IfSome found (λ f. f.thread.module ≡ «module».now)) }
 {
     match follow(alloc, module, stated, number, MAX_STEPS)? {
@@ -34,94 +42,162 @@ fn reached<'m>(
     }
 }
 
-/// Whether a thread was after the first events of its log where another is now.
-fn was_at(
-    alloc: Global,
-    module: &ValidModule,
-    stated: &ThreadLog,
-    number: usize,
-    count: usize,
-    now: &Thread,
-) -> Result<bool, AllocError>
-    requires places { HasPlaces number stated.now.events }
-    requires count { count ≤ length stated.now.events }
-    requires same { now.now.module ≡ «module».now }
-    ensures { IfOk result (λ was. was ≡ true → IsAt «module».now number stated.now count (config_of now.now)) }
+/// Whether these events write nothing.
+fn only_read(events: &[Event], stretch: Stretch) -> bool
+    ensures { result ≡ true → OnlyRead events.now stretch.first stretch.end }
 {
-    let beginning = first_events(alloc, stated, count)?;
-    match reached(alloc, module, &beginning, number)? {
-        None => Ok(false),
-        Some(before) => Ok(before.thread.is_same(now)),
+    for (number, event) in events.iter().enumerate() {
+        if stretch.first <= number && number < stretch.end && event.writes() {
+            return false;
+        }
     }
+    true
 }
 
-/// Whether an access makes an event if it reads the value that the event read.
-fn is_made_by(event: &Event, op: Op) -> bool {
-    op.fields().address == event.address && op.event(event.key(), event.read) == *event
-}
-
-/// Whether an event was made at this place by an access like this. Nothing rests on it but how many turns are compared.
-fn is_made_at(event: &Event, position: Option<&CodePosition>, op: Op, place: CodePosition) -> bool {
-    is_made_by(event, op) && position == Some(&place)
-}
-
-/// Where an idle turn of a thread begins that ends with the last event of its log, by which it was run: the number of its
-/// first event.
-fn idle_from(
+/// Whether a thread that was run by its log is where it would be without these events, which only read.
+fn is_idle(
     alloc: Global,
     module: &ValidModule,
     stated: &ThreadLog,
     number: usize,
     now: &Followed,
-) -> Result<Option<usize>, AllocError>
+    stretch: Stretch,
+) -> Result<bool, AllocError>
     requires places { HasPlaces number stated.now.events }
     requires runs { RunsWithinLimit number stated.now now.now }
     requires same { now.now.thread.module ≡ «module».now }
-    ensures { IfOk result (λ found. IfSome found (IsIdle «module».now number stated.now)) }
+    ensures { IfOk result (λ idle. idle ≡ true → IsIdle «module».now number stated.now stretch.first stretch.end) }
 {
     if now.events < stated.events.len() {
-        return Ok(None);
+        return Ok(false);
     }
-    let Need::Access(next) = now.thread.next() else {
-        return Ok(None);
-    };
-    let place = now.thread.position();
-    let events = stated.events.as_slice();
-    for later in 0..events.len() {
-        let first = events.len() - 1 - later;
-        let event = &events[first];
-        if event.writes() {
-            return Ok(None);
-        }
-        if !is_made_at(event, now.positions.get(first), next, place) {
-            continue;
-        }
-        if was_at(alloc, module, stated, number, first, &now.thread)? {
-            return Ok(Some(first));
+    if stretch.first >= stretch.end {
+        return Ok(false);
+    }
+    if stretch.end > stated.events.len() {
+        return Ok(false);
+    }
+    if !only_read(stated.events.as_slice(), stretch) {
+        return Ok(false);
+    }
+    let shorter = without(alloc, stated, stretch, number)?;
+    match reached(alloc, module, &shorter, number)? {
+        None => Ok(false),
+        Some(other) => {
+            if other.steps > now.steps {
+                return Ok(false);
+            }
+            Ok(other.thread.is_same(&now.thread))
         }
     }
-    Ok(None)
 }
 
-/// Whether what a thread does next could make one of its last events again, which only read.
-fn could_be_idle(stated: &ThreadLog, now: &Followed) -> bool {
-    let Need::Access(op) = now.thread.next() else {
-        return false;
-    };
-    let events = stated.events.as_slice();
-    for later in 0..events.len() {
-        let event = &events[events.len() - 1 - later];
-        match (event.writes(), is_made_by(event, op)) {
-            (true, _) => return false,
-            (false, true) => return true,
-            (false, false) => {}
+/// Whether what a thread does next makes an event if it reads the value that the event read.
+fn would_make(thread: &Thread, event: &Event) -> bool {
+    match thread.next() {
+        Need::Access(op) => {
+            op.fields().address == event.address && op.event(event.key(), event.read) == *event
         }
+        _ => false,
     }
-    false
 }
 
-/// Whether the last events of the log of a thread are an idle turn, by which it was run.
-pub(crate) fn ends_idly(
+/// The number of the first of a thread's last events, which only read.
+fn first_of_last_reads(events: &[Event]) -> usize {
+    for later in 0..events.len() {
+        let number = events.len() - 1 - later;
+        if events[number].writes() {
+            return number + 1;
+        }
+    }
+    0
+}
+
+/// Whether an event was made at a place.
+fn is_at(positions: &[CodePosition], number: usize, place: CodePosition) -> bool {
+    positions.get(number) == Some(&place)
+}
+
+/// The numbers of the events from number `first` on that were made at a place, the last one first.
+fn made_at(
+    alloc: Global,
+    positions: &[CodePosition],
+    first: usize,
+    place: CodePosition,
+) -> Result<List<usize>, AllocError> {
+    let mut made = List::new(alloc);
+    for later in first..positions.len() {
+        let number = positions.len() - 1 - (later - first);
+        if is_at(positions, number, place) {
+            made.push(number)?;
+        }
+    }
+    Ok(made)
+}
+
+/// Whether the events from number `first` on and below `end` were made where those were that came `count` later.
+fn are_made_again(positions: &[CodePosition], first: usize, end: usize, count: usize) -> bool {
+    for number in first..end {
+        if positions.get(number) != positions.get(number.saturating_add(count)) {
+            return false;
+        }
+    }
+    true
+}
+
+/// The first turn of a loop that a thread has left with its last event, if it has made two, as its places tell that begin
+/// with number `first`.
+fn first_turn(positions: &[CodePosition], first: usize) -> Option<Stretch> {
+    let last = positions.len().checked_sub(1)?;
+    let place = *positions.get(last)?;
+    let again = (first..last).rfind(|number| is_at(positions, *number, place))?;
+    let count = last.checked_sub(again)?;
+    let begin = (first..again).find(|begin| are_made_again(positions, *begin, again, count));
+    let begin = begin.unwrap_or(again);
+    Some(Stretch {
+        first: begin,
+        end: begin.checked_add(count)?,
+    })
+}
+
+/// The turn before a thread's last one: of the loop to whose beginning it has come back, as the events made there tell, the
+/// last one first, or of a loop that it has left.
+fn turn_before(made: &[usize], positions: &[CodePosition], first: usize) -> Option<Stretch> {
+    match (made.first(), made.get(1)) {
+        (Some(end), Some(first)) => Some(Stretch {
+            first: *first,
+            end: *end,
+        }),
+        (Some(_), None) => None,
+        (None, _) => first_turn(positions, first),
+    }
+}
+
+/// What is likely to be idle of the events of a thread that was run by its log: its last turns, or the one before.
+fn guesses(alloc: Global, stated: &ThreadLog, now: &Followed) -> Result<List<Stretch>, AllocError> {
+    let mut guesses = List::new(alloc);
+    let events = stated.events.as_slice();
+    let positions = now.positions.as_slice();
+    let reads = first_of_last_reads(events);
+    let made = made_at(alloc, positions, reads, now.thread.position())?;
+    for first in made.as_slice() {
+        match events.get(*first) {
+            Some(event) if would_make(&now.thread, event) => guesses.push(Stretch {
+                first: *first,
+                end: events.len(),
+            })?,
+            _ => {}
+        }
+    }
+    if let Some(turn) = turn_before(made.as_slice(), positions, reads) {
+        guesses.push(turn)?;
+    }
+    Ok(guesses)
+}
+
+/// Whether a thread that was run by its log is where it would be without some of its events, which only read. It is asked
+/// of turns of loops alone.
+pub(crate) fn has_idle_reads(
     alloc: Global,
     module: &ValidModule,
     stated: &ThreadLog,
@@ -131,11 +207,13 @@ pub(crate) fn ends_idly(
     requires places { HasPlaces number stated.now.events }
     requires runs { RunsWithinLimit number stated.now now.now }
     requires same { now.now.thread.module ≡ «module».now }
-    ensures { IfOk result (λ idle. idle ≡ true → EndsIdly «module».now number stated.now) }
+    ensures { IfOk result (λ idle. idle ≡ true → HasIdleReads «module».now number stated.now) }
 {
-    if !could_be_idle(stated, now) {
-        return Ok(false);
+    let guesses = guesses(alloc, stated, now)?;
+    for guess in guesses.as_slice() {
+        if is_idle(alloc, module, stated, number, now, *guess)? {
+            return Ok(true);
+        }
     }
-    let found = idle_from(alloc, module, stated, number, now)?;
-    Ok(found.is_some())
+    Ok(false)
 }

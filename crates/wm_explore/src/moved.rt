@@ -9,7 +9,7 @@ ghost use Rattle.wm_replay.specs.Following.{HasPlaces};
 ghost use Rattle.wm_replay.specs.Positions.{IsFollowed};
 
 use crate::cache::Cache;
-use crate::idle::ends_idly;
+use crate::idle::has_idle_reads;
 use crate::state::State;
 use std::alloc::{AllocError, Global};
 use wm_event::{MAX_STEPS, ThreadLog};
@@ -23,7 +23,7 @@ pub(crate) struct Moved {
     pub number: usize,
     /// What it does next.
     pub next: Next,
-    /// Whether its last events are an idle turn.
+    /// Whether some of its events are an idle turn.
     pub is_idle: bool,
 }
 
@@ -63,7 +63,7 @@ fn moved_by(
     requires same { followed.now.thread.module ≡ «module».now }
     ensures { IfOk result (IsMovedBy «module».now number stated.now) }
 {
-    let is_idle = ends_idly(alloc, module, stated, number, followed)?;
+    let is_idle = has_idle_reads(alloc, module, stated, number, followed)?;
     Ok(Moved {
         number,
         next: next_of(followed, stated, number),
@@ -106,7 +106,7 @@ pub(crate) fn last_moved<'m>(
     }
 }
 
-/// Whether the last events of a thread that moved are an idle turn.
+/// Whether some events of a thread that moved are an idle turn.
 pub(crate) fn is_idle(moved: &Option<Moved>) -> bool
     ensures { result ≡ true → (it : Moved) × (moved.now ≡ Some it) × (it.is_idle ≡ true) }
 {
