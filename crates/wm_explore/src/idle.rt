@@ -1,5 +1,5 @@
 //! Turns of a loop without which a thread is where it is, as those in which it only waits.
-ghost use Rattle.std.specs.Prelude.{◌≡◌, true, IfOk, IfSome};
+ghost use Rattle.std.specs.Prelude.{◌≡◌, ◌≤◌, true, IfOk, IfSome};
 ghost use Rattle.wm_explore.specs.Idle.{HasIdleReads, IsAfter, IsIdle, OnlyRead};
 ghost use Rattle.wm_machine.specs.State.{config_of};
 ghost use Rattle.wm_replay.specs.Complete.{RunsWithinLimit};
@@ -54,6 +54,18 @@ fn only_read(events: &[Event], stretch: Stretch) -> bool
     true
 }
 
+/// Whether a thread is where another one is, and came there as soon or sooner.
+fn comes_there(thread: &Followed, other: &Followed) -> bool
+    requires { thread.now.thread.module ≡ other.now.thread.module }
+    ensures there { result ≡ true → config_of thread.now.thread ≡ config_of other.now.thread }
+    ensures sooner { result ≡ true → thread.now.steps ≤ other.now.steps }
+{
+    if thread.steps > other.steps {
+        return false;
+    }
+    thread.thread.is_same(&other.thread)
+}
+
 /// Whether a thread that was run by its log is where it would be without these events, which only read.
 fn is_idle(
     alloc: Global,
@@ -83,12 +95,7 @@ fn is_idle(
     let shorter = without(alloc, stated, stretch, number)?;
     match reached(alloc, module, &shorter, number)? {
         None => Ok(false),
-        Some(other) => {
-            if other.steps > now.steps {
-                return Ok(false);
-            }
-            Ok(other.thread.is_same(&now.thread))
-        }
+        Some(other) => Ok(comes_there(&other, now)),
     }
 }
 
@@ -115,7 +122,12 @@ fn first_of_last_reads(events: &[Event]) -> usize {
 
 /// Whether an event was made at a place.
 fn is_at(positions: &[CodePosition], number: usize, place: CodePosition) -> bool {
-    positions.get(number) == Some(&place)
+    match positions.get(number) {
+        None => false,
+        Some(other) => other.at == place.at
+            && other.block == place.block
+            && other.func == place.func,
+    }
 }
 
 /// The numbers of the events from number `first` on that were made at a place, the last one first.

@@ -27,13 +27,17 @@ fn counts_source(order: &Clock, source: EventId) -> bool
 fn is_read_before(state: &State, next: &Event, place: usize, order: &Clock) -> bool
     ensures { result ≡ true → IsReadBefore state.now next.now place order.now }
 {
+    let Some(key) = state.arrived.get(place) else {
+        return false;
+    };
+    // What stands before it is known then.
+    if order.counts(*key) {
+        return false;
+    }
     let Some(past) = state.pasts.get(place) else {
         return false;
     };
     let Some(source) = past.source else {
-        return false;
-    };
-    let Some(key) = state.arrived.get(place) else {
         return false;
     };
     let Some(event) = state.log.event(*key) else {

@@ -18,7 +18,7 @@ use wm_valid::ValidModule;
 const STATES_AT_ONCE: usize = 64;
 
 /// The most graphs that are extended from each of them before what is left is shared out again.
-const GRAPHS_AT_ONCE: u64 = 1_024;
+const GRAPHS_AT_ONCE: u64 = 4_096;
 
 /// So many states are few: not enough for all processors.
 const FEW_STATES: usize = 16;

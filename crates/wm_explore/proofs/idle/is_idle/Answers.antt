@@ -1,4 +1,4 @@
-use Rattle.std.proofs.Common.{◌≡◌, ◌≤◌, length, sym, ap, subst, ◌∙◌, arith}
+use Rattle.std.proofs.Common.{◌≡◌, ◌≤◌, length, sym, subst, arith}
 use Rattle.std.specs.Prelude.{IfSome}
 use Rattle.wm_explore.specs.Idle.{IsAfter, OnlyRead, shortened}
 use Rattle.wm_machine.specs.State.{config_of}
@@ -17,7 +17,7 @@ reached-requires c =
     subst (HasPlaces c.args.number) (sym c.in_ok-shorter.ensures.events) (places_left c.args.number i n events (omega (arith, lt)) few c.requires.places)
 
 pub returns : goal.returns
-returns c is_same =
+returns c idle =
     let t = c.args.stated.now in
     let i = c.args.stretch.first in
     let n = c.args.stretch.end in
@@ -30,14 +30,11 @@ returns c is_same =
     let count = c.len-2.ensures in
     let all = c.if-now-len.false in
     let listed = c.len.ensures in
-    let sooner = c.if-other-now.false in
     let runs : RunsByLog m k t 1000000 (config_of now.thread) now.steps now.events =
     subst (λ o. RunsByLog o k t 1000000 (config_of now.thread) now.steps now.events) c.requires.same c.requires.runs in
     let here : IsAfter m k t (config_of now.thread) now.steps = after_all m k t 1000000 _ _ _ runs (omega (arith, all, listed)) in
     let there : IsAfter m k c.in_ok-shorter.shorter (config_of other.thread) other.steps =
     subst (λ o. IfSome o (λ f. IsAfter m k c.in_ok-shorter.shorter (config_of f.thread) f.steps)) c.in-Some.is c.in_ok-reached.ensures.after in
-    let same : config_of other.thread ≡ config_of now.thread =
-    ap config_of (c.is_same.ensures is_same (subst (λ o. IfSome o (λ f. f.thread.module ≡ m)) c.in-Some.is c.in_ok-reached.ensures.same ∙ sym c.requires.same)) in
     record {
       some = lt;
       listed = omega (arith, more, count);
@@ -46,7 +43,7 @@ returns c is_same =
       count = now.steps;
       after = here;
       fewer = other.steps;
-      without = subst (λ config. IsAfter m k (shortened i n other.steps t) config other.steps) same
+      without = subst (λ config. IsAfter m k (shortened i n other.steps t) config other.steps) (c.comes_there.ensures.there idle)
           (after_same m k (shortened i n other.steps t) c.in_ok-shorter.shorter (config_of other.thread) other.steps c.in_ok-shorter.ensures.start c.in_ok-shorter.ensures.events there);
-      sooner = sooner;
+      sooner = c.comes_there.ensures.sooner idle;
     }
