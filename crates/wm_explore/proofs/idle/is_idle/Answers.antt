@@ -1,4 +1,4 @@
-use Rattle.std.proofs.Common.{◌≡◌, ◌≤◌, length, sym, subst, arith}
+use Rattle.std.proofs.Common.{◌≤◌, length, sym, subst, arith}
 use Rattle.std.specs.Prelude.{IfSome}
 use Rattle.wm_explore.specs.Idle.{IsAfter, OnlyRead, shortened}
 use Rattle.wm_machine.specs.State.{config_of}
