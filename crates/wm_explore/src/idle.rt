@@ -13,6 +13,9 @@ use wm_machine::{CodePosition, Need, Thread};
 use wm_replay::{Followed, follow};
 use wm_valid::ValidModule;
 
+/// With itself before so many of its last turns a thread is compared.
+const LAST_TURNS: usize = 64;
+
 /// Events of a thread that follow each other: those from number `first` on and below `end`.
 #[derive(Clone, Copy)]
 pub(crate) struct Stretch {
@@ -130,6 +133,12 @@ fn is_at(positions: &[CodePosition], number: usize, place: CodePosition) -> bool
     }
 }
 
+/// Whether a thread is compared with itself before one of its turns, the last of which is number 0. So a cycle of more turns
+/// than [`LAST_TURNS`] is found too, but later.
+fn is_compared(turn: usize, turns: usize) -> bool {
+    turn < LAST_TURNS || turns.saturating_sub(turn).is_power_of_two()
+}
+
 /// The numbers of the events from number `first` on that were made at a place, the last one first.
 fn made_at(
     alloc: Global,
@@ -192,7 +201,10 @@ fn guesses(alloc: Global, stated: &ThreadLog, now: &Followed) -> Result<List<Str
     let positions = now.positions.as_slice();
     let reads = first_of_last_reads(events);
     let made = made_at(alloc, positions, reads, now.thread.position())?;
-    for first in made.as_slice() {
+    for (turn, first) in made.as_slice().iter().enumerate() {
+        if !is_compared(turn, made.len()) {
+            continue;
+        }
         match events.get(*first) {
             Some(event) if would_make(&now.thread, event) => guesses.push(Stretch {
                 first: *first,
