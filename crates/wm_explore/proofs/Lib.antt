@@ -5,6 +5,7 @@ pub mod Lists
 pub mod Nexts
 pub mod Starts
 pub mod Turning
+pub mod Resting
 pub mod Beginnings
 pub mod Alike
 pub mod Children

@@ -1,5 +1,5 @@
 -- Logs that are extended.
-use Rattle.std.proofs.Common.{◌≡◌, ℕ, zero, suc, ◌+◌, List, [], ◌∷◌, ◌++◌, length, take, Some, inl, inr, refl, sym, ap, ◌∙◌, arith}
+use Rattle.std.proofs.Common.{◌≡◌, ℕ, zero, suc, ◌+◌, ◌<◌, List, [], ◌∷◌, ◌++◌, length, take, Some, inl, inr, refl, sym, ap, ◌∙◌, arith}
 use Rattle.std.specs.Prelude.{◌≢◌, ◌⊎◌, slice_get, slice_set}
 use Rattle.std.proofs.lemmas.Option.{none-some, same_Some}
 use Rattle.wm_event.specs.declared.event.Event.{Event}
@@ -79,3 +79,22 @@ at_set (z ∷ xs) (suc n) y (suc i) x is = further (at_set xs n y i x is)
     further : ((i ≡ n) × (x ≡ y)) ⊎ (slice_get xs i ≡ Some x) → ((suc i ≡ suc n) × (x ≡ y)) ⊎ (slice_get xs i ≡ Some x)
     further (inl h) = inl (ap suc h.0, h.1)
     further (inr h) = inr h
+
+-- the item that was put there
+pub set_here : {X : Type 0} (xs : List X) (n : ℕ) (y : X) → n < length xs → slice_get (slice_set xs n y) n ≡ Some y
+set_here [] n y lt = absurd (omega (arith, lt))
+set_here (z ∷ xs) zero y lt = refl
+set_here (z ∷ xs) (suc n) y lt = set_here xs n y (omega (arith, lt))
+
+-- the others
+pub set_other : {X : Type 0} (xs : List X) (n : ℕ) (y : X) (i : ℕ) → i ≢ n → slice_get (slice_set xs n y) i ≡ slice_get xs i
+set_other [] n y i not = refl
+set_other (z ∷ xs) zero y zero not = absurd (not refl)
+set_other (z ∷ xs) zero y (suc i) not = refl
+set_other (z ∷ xs) (suc n) y zero not = refl
+set_other (z ∷ xs) (suc n) y (suc i) not = set_other xs n y i (λ same. not (ap suc same))
+
+pub length_set : {X : Type 0} (xs : List X) (n : ℕ) (y : X) → length (slice_set xs n y) ≡ length xs
+length_set [] n y = refl
+length_set (z ∷ xs) zero y = refl
+length_set (z ∷ xs) (suc n) y = ap suc (length_set xs n y)

@@ -58,6 +58,15 @@ abbrev pub EachEnds : List Next → Bool → Type 0
 EachEnds nexts true = (k : ℕ) (next : Next) → slice_get nexts k ≡ Some next → (end : End) × (next ≡ Ends end)
 EachEnds nexts false = (k : ℕ) × (next : Next) × (slice_get nexts k ≡ Some next) × ((end : End) → next ≢ Ends end)
 
+-- the thread that does this next ends, or waits
+abbrev pub Rests : State → ℕ → Next → Type 0
+Rests s k next = ((end : End) × (next ≡ Ends end)) ⊎ ((op : OpFields) × (next ≡ Access op) × WaitsFor s k op)
+
+-- each thread but k ends or waits, and k has a place among the marks
+pub record OthersRest (s : State) (nexts : List Next) (k : ℕ) : Type 0 where
+  pub place : k < length s.marks
+  pub others : (i : ℕ) (next : Next) → i ≢ k → slice_get nexts i ≡ Some next → Rests s i next
+
 -- the threads of the log end as these threads do next
 pub record EndSo (log : List ThreadLog) (nexts : List Next) : Type 0 where
   pub count : length log ≡ length nexts

@@ -372,6 +372,25 @@ impl Hint {
         }
     }
 
+    /// The same with one more event, in the place of this one; None if no place for it is found.
+    pub(crate) fn into_with(
+        self,
+        alloc: Global,
+        initial: &Initial,
+        event: Event,
+    ) -> Result<Option<Self>, AllocError> {
+        let mut hint = self;
+        match hint.fit(initial, event, &[]) {
+            Fit::At(spot) => {
+                let place = spot.place.min(hint.order.len());
+                hint.order.insert(place, spot.happened)?;
+                Ok(Some(hint))
+            }
+            Fit::Blocked(place) => hint.delaying(alloc, initial, place, event),
+            Fit::Nowhere => Ok(None),
+        }
+    }
+
     /// Adds some events of an order, those that an event happens before or the others. Whether each has a place.
     fn add_part(
         &mut self,

@@ -1,5 +1,5 @@
 //! The exploration: states that are extended one after the other.
-ghost use Rattle.std.specs.Prelude.{◌≡◌, ◌≢◌, ◌<◌, ◌≤◌, ◌^◌, ℕ, List, true, false, IfOk, OnOk, length};
+ghost use Rattle.std.specs.Prelude.{◌≡◌, ◌≢◌, ◌+◌, ◌<◌, ◌≤◌, ◌^◌, ℕ, List, true, false, IfOk, OnOk, length};
 ghost use Rattle.wm_event.specs.Limits.{max_threads};
 ghost use Rattle.wm_event.specs.Log.{IsLog};
 ghost use Rattle.wm_event.specs.Op.{event_made, kind_finds};
@@ -10,7 +10,7 @@ ghost use Rattle.wm_explore.specs.Known.{IsNoted};
 ghost use Rattle.wm_explore.specs.Search.{AddsPermitted, AddsRead, EndsFound, Explores, IsFirstState, IsProgress, IsStep, Lists};
 ghost use Rattle.wm_explore.specs.Subtrees.{Advances};
 ghost use Rattle.wm_explore.specs.States.{count_in, extended};
-ghost use Rattle.wm_explore.specs.Turns.{AreNexts, EachEndsIn, EndSo, MakesNext};
+ghost use Rattle.wm_explore.specs.Turns.{AreNexts, EachEndsIn, EndSo, MakesNext, OthersRest};
 ghost use Rattle.wm_explore.specs.Writing.{ListsWriting};
 
 use crate::bound::{Bound, Limits};
@@ -20,11 +20,11 @@ use crate::exploration::{Exploration, Finished};
 use crate::hint::Hint;
 use crate::judge::{Permission, judged};
 use crate::moved::{is_idle, last_moved};
-use crate::past::past_of_write;
-use crate::standing::{pasts_of, pasts_with};
+use crate::past::{past_of, past_of_write};
+use crate::standing::pasts_of;
 use crate::state::State;
 use crate::subtrees::explore_some;
-use crate::turn::{Turn, nexts, turn_of};
+use crate::turn::{Turn, nexts, others_rest, turn_of};
 use crate::values::values;
 use crate::writing::writing;
 use std::alloc::{AllocError, AllocGlobal, Global};
@@ -263,6 +263,44 @@ fn add_read(
     }
 }
 
+/// The same, where the state gives way to the one that is added.
+fn add_last_read(
+    alloc: Global,
+    initial: &Initial,
+    nodes: u64,
+    state: State,
+    nexts: &[Next],
+    writing: &[usize],
+    work: &mut Vec<State>,
+    thread: usize,
+    event: Event,
+) -> Result<(), AllocError>
+    requires log { IsLog (extended thread event state.log) }
+    requires writing { ListsWriting state event.address event.width writing.now }
+    ensures { OnOk result (AddsRead initial.now nexts.now thread event state work.old.items work.new.items) }
+{
+    match past_of(&state, writing, initial, &event) {
+        None => Ok(()),
+        Some(past) => {
+            let child = state.into_child(alloc, initial, nexts, thread, event, past)?;
+            add_permitted(alloc, initial, nodes, child, work)
+        }
+    }
+}
+
+/// How many of some values a thread reads in copies of a state: all, or all but the last if nothing else comes of the state.
+fn copies_of(state: &State, nexts: &[Next], thread: usize, values: usize) -> usize
+    ensures most { result ≤ values }
+    ensures one_less { values ≤ result + 1 }
+    ensures rest { result < values → OthersRest state.now nexts.now thread }
+{
+    if others_rest(state, nexts, thread) {
+        values.saturating_sub(1)
+    } else {
+        values
+    }
+}
+
 /// Adds the states in which a thread makes the access, which reads, and the one in which it waits, unless all would wait then.
 fn add_reads(
     alloc: Global,
@@ -286,8 +324,10 @@ fn add_reads(
     let writing = writing.as_slice();
     let mark = state.mark(thread);
     let values = values(alloc, &state, writing, initial, op.fields(), mark)?;
-    for value in values.as_slice() {
-        let event = next_event(&state, thread, op, *value);
+    let values = values.as_slice();
+    let copies = copies_of(&state, nexts, thread, values.len());
+    for place in 0..copies {
+        let event = next_event(&state, thread, op, values[place]);
         add_read(
             alloc,
             initial,
@@ -299,6 +339,20 @@ fn add_reads(
             thread,
             event,
         )?;
+    }
+    if copies < values.len() {
+        let event = next_event(&state, thread, op, values[copies]);
+        return add_last_read(
+            alloc,
+            initial,
+            limits.nodes,
+            state,
+            nexts,
+            writing,
+            &mut progress.work,
+            thread,
+            event,
+        );
     }
     let waiting = state.marked(alloc, nexts, thread)?;
     match turn_of(&waiting, nexts, limits.events) {
@@ -330,8 +384,8 @@ fn extend(
         Turn::Write(thread, op) => {
             let event = next_event(&state, thread, op, 0);
             let past = past_of_write(&state, event.key());
-            let pasts = pasts_with(alloc, &state, &event, past)?;
-            let child = state.with(alloc, module.initial(), nexts, thread, event, pasts)?;
+            let initial = module.initial();
+            let child = state.into_child(alloc, initial, nexts, thread, event, past)?;
             progress.work.push(child)?;
             Ok(())
         }

@@ -72,7 +72,7 @@ fn with_read(state: &State, next: &Event, place: usize, order: Clock) -> Clock
 }
 
 /// What stands before the next event, with what stands before the reads that take their bytes from what it overwrites.
-fn with_reads(state: &State, next: &Event, order: Clock) -> Clock
+pub(crate) fn with_reads(state: &State, next: &Event, order: Clock) -> Clock
     ensures { KeepsBeforeNext state.now next.now order result }
 {
     let mut all = order;
@@ -123,7 +123,7 @@ fn later_writes(
 }
 
 /// The events that the next one surely stands before, since they overwrite what it reads.
-fn overwriting(
+pub(crate) fn overwriting(
     alloc: Global,
     state: &State,
     next: &Event,
@@ -188,8 +188,21 @@ fn all_raised(
     Ok(List::from_vec(all))
 }
 
+/// What surely holds of each event is raised so.
+pub(crate) fn raise_all(pasts: &mut List<Past>, keys: &[EventKey], order: &Clock)
+    ensures { AreRaised keys.now order.now pasts.old pasts.new }
+{
+    if keys.is_empty() {
+        return;
+    }
+    for place in 0..pasts.len() {
+        let past = pasts.as_slice()[place];
+        pasts.set(place, raised(&past, keys, order));
+    }
+}
+
 /// What surely holds of the events of a state and of the next one, of which so much holds.
-pub(crate) fn pasts_with(
+fn pasts_with(
     alloc: Global,
     state: &State,
     next: &Event,

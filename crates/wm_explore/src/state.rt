@@ -1,8 +1,9 @@
 //! How far an execution has come.
-ghost use Rattle.std.specs.Prelude.{◌≡◌, ℕ, Some, IfOk, length, slice_get};
+ghost use Rattle.std.specs.Prelude.{◌≡◌, ℕ, None, Some, IfOk, length, slice_get};
 ghost use Rattle.wm_ast.specs.declared.module.Module.{Module};
 ghost use Rattle.wm_event.specs.Log.{IsLog};
 ghost use Rattle.wm_explore.specs.Known.{KnowsBut, KnowsNexts, KnowsOnly};
+ghost use Rattle.wm_explore.specs.Standing.{AreKnownBy};
 ghost use Rattle.wm_explore.specs.States.{IsAlike, IsChild, IsMarked, extended};
 ghost use Rattle.wm_explore.specs.Turns.{AreNexts};
 ghost use Rattle.wm_replay.specs.declared.continuing.Next.{Next};
@@ -11,6 +12,7 @@ use crate::copies::{with_arrival, with_event};
 use crate::hint::Hint;
 use crate::interleaving::interleaved;
 use crate::past::Past;
+use crate::standing::{overwriting, raise_all, with_reads};
 use std::alloc::{AllocError, Global};
 use wm_event::{Event, EventKey, Initial, Log};
 use wm_list::List;
@@ -48,6 +50,15 @@ fn with_mark(
         copy.push(if number == thread { mark } else { *old })?;
     }
     Ok(copy)
+}
+
+/// A thread is no longer marked.
+fn unmark(marks: &mut List<Option<usize>>, thread: usize)
+    ensures { IsMarked thread None marks.old marks.new }
+{
+    if thread < marks.len() {
+        marks.set(thread, None);
+    }
 }
 
 /// What the threads do next, which isn't known of this one.
@@ -89,6 +100,23 @@ fn hint_with(
     interleaved(alloc, initial, log, arrived)
 }
 
+/// A hint as [`hint_with`] finds it, which may take the place of the one that is there.
+fn hint_into(
+    alloc: Global,
+    initial: &Initial,
+    hint: Option<Hint>,
+    event: Event,
+    log: &Log,
+    arrived: &[EventKey],
+) -> Result<Option<Hint>, AllocError> {
+    if let Some(hint) = hint
+        && let Some(longer) = hint.into_with(alloc, initial, event)?
+    {
+        return Ok(Some(longer));
+    }
+    interleaved(alloc, initial, log, arrived)
+}
+
 impl State {
     /// The state in which this thread has one more event, where the threads did this next and so much surely holds then.
     pub(crate) fn with(
@@ -110,6 +138,51 @@ impl State {
         let marks = with_mark(alloc, self.marks.as_slice(), thread, None)?;
         let known = known_but(alloc, nexts, thread)?;
         let hint = hint_with(alloc, initial, &self.hint, event, &log, arrived.as_slice())?;
+        Ok(State {
+            log,
+            arrived,
+            marks,
+            pasts,
+            known,
+            hint,
+        })
+    }
+
+    /// The same as [`State::with`] of an event of which so much surely holds; the state gives way to it.
+    pub(crate) fn into_child(
+        self,
+        alloc: Global,
+        initial: &Initial,
+        nexts: &[Next],
+        thread: usize,
+        event: Event,
+        past: Past,
+    ) -> Result<State, AllocError>
+        requires { IsLog (extended thread event self.log) }
+        ensures child { IfOk result (IsChild thread event self) }
+        ensures pasts { IfOk result (λ s. AreKnownBy self event past s.pasts) }
+        ensures known { IfOk result (λ s. (m : Module) → AreNexts m self.log nexts.now → KnowsNexts m s) }
+    {
+        let past = Past {
+            order: with_reads(&self, &event, past.order),
+            ..past
+        };
+        let keys = overwriting(alloc, &self, &event, past.source)?;
+        let State {
+            log,
+            mut arrived,
+            mut marks,
+            mut pasts,
+            known: _known,
+            hint,
+        } = self;
+        let log = with_event(alloc, &log, thread, event)?;
+        arrived.push(event.key())?;
+        unmark(&mut marks, thread);
+        raise_all(&mut pasts, keys.as_slice(), &past.order);
+        pasts.push(past)?;
+        let known = known_but(alloc, nexts, thread)?;
+        let hint = hint_into(alloc, initial, hint, event, &log, arrived.as_slice())?;
         Ok(State {
             log,
             arrived,

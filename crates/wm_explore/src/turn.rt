@@ -4,7 +4,7 @@ ghost use Rattle.wm_ast.specs.declared.module.Module.{Module};
 ghost use Rattle.wm_event.specs.Op.{kind_finds};
 ghost use Rattle.wm_explore.specs.Known.{KnowsNexts};
 ghost use Rattle.wm_explore.specs.Moved.{IsMoved, MovesSo};
-ghost use Rattle.wm_explore.specs.Turns.{AreNexts, EachEnds, FindsBound, FindsRead, FindsWrite, HasNoNew, IsTurn, WaitsFor, bound_at};
+ghost use Rattle.wm_explore.specs.Turns.{AreNexts, EachEnds, FindsBound, FindsRead, FindsWrite, HasNoNew, IsTurn, OthersRest, Rests, WaitsFor, bound_at};
 ghost use Rattle.wm_replay.specs.Continuing.{ContinuesSo};
 ghost use Rattle.wm_replay.specs.Following.{HasPlaces};
 
@@ -233,6 +233,35 @@ fn next_read(state: &State, nexts: &[Next]) -> Option<Turn>
         None => first_read(state, nexts),
         Some(turn) => Some(turn),
     }
+}
+
+/// Whether a thread ends, or waits for an event that writes what it reads.
+fn rests(state: &State, number: usize, next: Next) -> bool
+    ensures { result ≡ true → Rests state.now number next }
+{
+    match next {
+        Next::Ends(_) => true,
+        Next::Access(op) => !can_read(state, number, op.fields()),
+        Next::Unknown => false,
+    }
+}
+
+/// Whether each thread but one, which can be marked, ends, or waits for an event that writes what it reads.
+pub(crate) fn others_rest(state: &State, nexts: &[Next], thread: usize) -> bool
+    ensures { result ≡ true → OthersRest state.now nexts.now thread }
+{
+    if state.marks.len() <= thread {
+        return false;
+    }
+    for (number, next) in nexts.iter().enumerate() {
+        if number == thread {
+            continue;
+        }
+        if !rests(state, number, *next) {
+            return false;
+        }
+    }
+    true
 }
 
 /// Whether each thread ends.

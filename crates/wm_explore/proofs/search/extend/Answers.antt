@@ -3,7 +3,6 @@ use Rattle.std.proofs.lemmas.Option.{slice_get_within}
 use Rattle.std.proofs.lemmas.Result.{on_ok_weaker}
 use Rattle.wm_event.specs.Op.{event_made}
 use Rattle.wm_event.specs.Event.{key_of}
-use Rattle.wm_explore.specs.Past.{AreKnownWith}
 use Rattle.wm_explore.specs.States.{IsChild, count_in}
 use Rattle.wm_explore.specs.Turns.{IsTurn}
 use Rattle.wm_explore.proofs.Beginnings.{count_at}
@@ -43,15 +42,14 @@ returns-in_ok-push-in-Write c starts fine progress =
     writes c.args.module.now starts c.args.limits.events s fine c.args.progress.now progress c.in-Write.thread c.in-Write.op turn.0 turn.1
     (record { work = c.push.new.self; finished = c.args.progress.now.finished; met = c.args.progress.now.met }) refl refl c.in_ok-child-in-Write.child c.in_ok-push-in-Write.ensures.items
     (subst (λ e. IsChild c.in-Write.thread e s c.in_ok-child-in-Write.child) event c.in_ok-child-in-Write.ensures.child)
-    (made_noted c.args.module.now starts c.initial.result.now c.args.nexts.now c.in-Write.thread c.next_event-event.result s c.in_ok-child-in-Write.child t turn.0.is_thread (ap key_of event) fine
+    (made_noted c.args.module.now starts c.initial-initial.result.now c.args.nexts.now c.in-Write.thread c.next_event-event.result s c.in_ok-child-in-Write.child t turn.0.is_thread (ap key_of event) fine
     (record {
       is_child = c.in_ok-child-in-Write.ensures.child;
       finds = λ knows.
-          let initial = c.initial.result.now in
-          subst (AreKnownWith initial s c.next_event-event.result) (sym c.in_ok-child-in-Write.ensures.pasts)
-          (c.in_ok-pasts-in-Write.ensures initial knows (c.past_of_write-past.ensures initial c.next_event-event.result (sym c.key.ensures) knows));
+          let initial = c.initial-initial.result.now in
+          c.in_ok-child-in-Write.ensures.pasts initial knows (c.past_of_write-past.ensures initial c.next_event-event.result (sym c.key.ensures) knows);
       known = c.in_ok-child-in-Write.ensures.known;
-    }) c.requires.noted are c.initial.ensures)
+    }) c.requires.noted are c.initial-initial.ensures)
 
 pub returns-in-Bounded : goal.returns-in-Bounded
 returns-in-Bounded c starts fine progress =
